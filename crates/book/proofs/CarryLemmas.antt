@@ -6,21 +6,22 @@ use Rattle.machine.specs.declared.id.PageId.{PageId}
 use Rattle.machine.specs.declared.record.Key.TheVariants as key
 use Rattle.machine.specs.declared.record.Life.TheVariants.{Killed}
 use Rattle.machine.specs.declared.event.Setting.{Setting}
+use Rattle.machine.specs.declared.event.Cause.{Cause}
 use Rattle.machine.specs.declared.event.Event.{Event}
 use Rattle.machine.specs.declared.event.Event.TheVariants as event
 use Rattle.machine.specs.Pages.{Coming, Away, Page, page_at, block_at, home_block, is_in_transfer}
 use Rattle.machine.specs.Slots.{there_and}
-use Rattle.machine.specs.Counts.{with_event, limits_at}
+use Rattle.machine.specs.Counts.{with_events}
 use Rattle.machine.specs.Tasks.{group_of_task}
 use Rattle.machine.specs.State.{State, page_numbers}
 use Rattle.machine.proofs.Values.{some_inj}
 use Rattle.machine.specs.declared.record.EventCounts.{EventCounts}
 use Rattle.machine.specs.declared.record.Key.TheVariants as key
 use Rattle.machine.specs.Counts.{with_event}
-use Rattle.machine.specs.Reclaim.{has_open, has_takeable, has_transfer, counted_at_take}
+use Rattle.machine.specs.Reclaim.{target_of, has_open, has_takeable, has_transfer, counted_at_take}
 use Rattle.reclaim.specs.declared.cursors.Served.{Served}
-use Rattle.machine.specs.Victim.{IsVictim}
-use Rattle.machine.specs.Step.{with_setting, Step, TriesCharge}
+use Rattle.machine.specs.Victim.{is_candidate, IsVictim, kill_group_of, killed_with, counts_of_group_kill}
+use Rattle.machine.specs.Step.{Step, TriesCharge}
 use Rattle.machine.specs.History.{InTask}
 use Rattle.files.specs.Files.{FilesOf}
 use Rattle.pages.specs.PagesOf.{Label, memory_of, of_file, HasResidence, AreFiled, labelled}
@@ -31,7 +32,7 @@ use Rattle.page_state.specs.Mapped.{AreMapped}
 use Rattle.pages.specs.declared.source.Source.{Source}
 use Rattle.pages.specs.declared.source.Source.TheVariants as source
 use Rattle.pages.specs.Transfers.{ReadsFrom}
-use Rattle.page_state.specs.Changes.{files_of, counts_event, MakesPage, BeginsReadIn, BeginsRead, BeginsWriteOut, DropsClean, EndsTask, sets_limits}
+use Rattle.page_state.specs.Changes.{files_of, counts_event, counts_events, MakesPage, BeginsReadIn, BeginsRead, BeginsWriteOut, DropsClean, EndsTask, EndsTasks, sets_in}
 use Rattle.book.specs.declared.event.Reply.{Reply as Given}
 use Rattle.book.specs.declared.event.Reply.TheVariants as given
 use Rattle.book.specs.declared.decision.Meeting.{Meeting}
@@ -41,7 +42,7 @@ use Rattle.book.specs.Events.{reply_of}
 use Rattle.book.specs.Replies.{IsAccessReply, IsReliefReply, IsReclaimReply}
 use Rattle.book.specs.Effects.{knows}
 use Rattle.book.specs.MakesStep.{MakesStep, GivesTicket, RepliesTo}
-use Rattle.book.proofs.EndLemmas.{makes_step-kill}
+use Rattle.book.proofs.EndLemmas.{IsStuck, makes_step-kill, makes_step-kill_all}
 use Rattle.book.specs.declared.decision.PageFault.{PageFault}
 use Rattle.book.specs.Decisions.{with_counted, counted_for, MeetsSource, offset_at, IsFault, met_by, MeetsSo, HasRoomFor, LacksRoomFor, IsIdleFor, IsOfKilled, AsksPage, WantsRoom, HasItsRoom, FindsNothing, AnswersTo, Carries}
 use Rattle.book.proofs.StepLemmas.{InOrder, still-self, still-counts, held-known, over_step, frameless_step, granted_step, makes_step-set, makes_step-killed, makes_step-undone, met_step, tries_charge, makes_step-room, makes_step-wait, makes_step-no_victim, makes_step-nothing}
@@ -212,32 +213,54 @@ carries-no_victim old new limit listed counts what is = by_event what is.fits
         }
     by_event other wants = absurd wants
 
--- a task is killed: two events are counted, and then it ends
+-- where room is wanted under a limit, a kill is an answer if it is one for each cause of that limit
+carries-killing : (old new : StateOf) (limit : GroupId) (said : Given) (Killing : ℕ → Type 0) → IsIdleFor old.tables limit.0 → Killing limit.0
+    → ((why : Cause) → IsStuck old.tables why → Killing (target_of why) → MakesStep old (event.Relieve why) (reply_of said) new) → GivesTicket new said → IsReliefReply said
+    → (what : Event) → WantsRoom old.tables what limit.0 → AnswersTo old what said new
+carries-killing old new limit said Killing idle kills makes gives replies (event.Relieve why) wants =
+    record {
+      makes_step = makes why (record { wants = wants.0; untakeable = ap (has_takeable old.tables) wants.1 ∙ idle.untakeable; settled = ap (has_transfer old.tables) wants.1 ∙ idle.settled }) (subst Killing (sym wants.1) kills);
+      gives = gives;
+      replies = replies;
+    }
+carries-killing old new limit said Killing idle kills makes gives replies other wants = absurd wants
+
+-- for room under a limit this task dies, alone
+abbrev KillsOne : StateOf → StateOf → ℕ → ℕ → Type 0
+KillsOne old new t limit =
+    IsVictim old.tables.tree old.tables.tasks old.tables.page_tables limit (Some t) × (kill_group_of old.tables.tree old.tables.flags old.tables.tasks limit t ≡ None)
+    × EndsTask (with_counted old (with_event (with_event old.tables.counted limit key.Oom) (group_of_task old.tables.tasks t) key.OomKill)) new t Killed
+
+-- or with all tasks of this group
+abbrev KillsAll : StateOf → StateOf → ℕ → ℕ → ℕ → Type 0
+KillsAll old new victim h limit =
+    IsVictim old.tables.tree old.tables.tasks old.tables.page_tables limit (Some victim) × (kill_group_of old.tables.tree old.tables.flags old.tables.tasks limit victim ≡ Some h)
+    × EndsTasks (with_counted old (with_events old.tables.counted (counts_of_group_kill old.tables.tree old.tables.tasks limit h))) new (is_candidate old.tables.tree old.tables.tasks h) Killed
+
+-- a task is killed, alone: two events are counted, and then it ends
 pub carries-kill : (old first second new : StateOf) (limit : GroupId) (t : TaskId) (g : ℕ) → first ≡ counts_event old limit.0 key.Oom → second ≡ counts_event first g key.OomKill → group_of_task old.tables.tasks t.0 ≡ g
     → EndsTask second new t.0 Killed → Carries old (decision.Kill limit t) (given.KilledTask t) new
-carries-kill old first second new limit t g oom kills home ends what is = by_event what is.fits
+carries-kill old first second new limit t g oom kills home ends what is =
+    carries-killing old new limit (given.KilledTask t) (KillsOne old new t.0) is.sound.1 (is.sound.2, is.sound.3, ended) (λ why stuck killing. makes_step-kill old new why t.0 stuck killing.0 killing.1 killing.2) tt tt what is.fits
   where
-    idle : IsIdleFor old.tables limit.0
-    idle = is.sound.1
-
     ended : EndsTask (with_counted old (with_event (with_event old.tables.counted limit.0 key.Oom) (group_of_task old.tables.tasks t.0) key.OomKill)) new t.0 Killed
     ended =
         subst (λ (s : StateOf). EndsTask s new t.0 Killed)
         (kills ∙ ap (λ (s : StateOf). counts_event s g key.OomKill) oom ∙ ap (λ (h : ℕ). counts_event (counts_event old limit.0 key.Oom) h key.OomKill) (sym home)) ends
 
-    by_event : (what : Event) → WantsRoom old.tables what limit.0 → AnswersTo old what (given.KilledTask t) new
-    by_event (event.Relieve why) wants =
-        record {
-          makes_step = makes_step-kill old new why t.0 wants.0 (ap (has_takeable old.tables) wants.1 ∙ idle.untakeable) (ap (has_transfer old.tables) wants.1 ∙ idle.settled)
-              (subst (λ (l : ℕ). IsVictim old.tables.tree old.tables.tasks old.tables.page_tables l (Some t.0)) (sym wants.1) is.sound.2)
-              (subst (λ (l : ℕ). EndsTask (with_counted old (with_event (with_event old.tables.counted l key.Oom) (group_of_task old.tables.tasks t.0) key.OomKill)) new t.0 Killed) (sym wants.1) ended);
-          gives = tt;
-          replies = tt;
-        }
-    by_event other wants = absurd wants
+-- a group is killed: all of its events are counted, and then all of its tasks end
+pub carries-kill_all : (old counts new : StateOf) (limit : GroupId) (victim : TaskId) (h : GroupId) (tasks : ℕ) → tasks ≡ killed_with old.tables.tree old.tables.tasks h.0
+    → counts ≡ counts_events old (counts_of_group_kill old.tables.tree old.tables.tasks limit.0 h.0) → EndsTasks counts new (is_candidate counts.tables.tree counts.tables.tasks h.0) Killed
+    → Carries old (decision.KillAll limit victim h) (given.KilledAll victim h tasks) new
+carries-kill_all old counts new limit victim h tasks many counted ends what is =
+    carries-killing old new limit (given.KilledAll victim h tasks) (KillsAll old new victim.0 h.0) is.sound.1 (is.sound.2, is.sound.3, ended)
+    (λ why stuck killing. makes_step-kill_all old new why victim.0 h.0 tasks stuck killing.0 killing.1 many killing.2) tt tt what is.fits
+  where
+    ended : EndsTasks (with_counted old (with_events old.tables.counted (counts_of_group_kill old.tables.tree old.tables.tasks limit.0 h.0))) new (is_candidate old.tables.tree old.tables.tasks h.0) Killed
+    ended = subst (λ (s : StateOf). EndsTasks s new (is_candidate s.tables.tree s.tables.tasks h.0) Killed) counted ends
 
 -- ---- tasks and groups
 
-pub carries-set : (old new : StateOf) (g : GroupId) (setting : Setting) → InOrder old → new ≡ sets_limits old g.0 (with_setting (limits_at old.tables.limits g.0) setting) → Carries old (decision.Set g setting) given.Ok new
+pub carries-set : (old new : StateOf) (g : GroupId) (setting : Setting) → InOrder old → new ≡ sets_in old g.0 setting → Carries old (decision.Set g setting) given.Ok new
 carries-set old new g setting listed sets what is =
     answers old new what (event.Set g setting) given.Ok is.fits (makes_step-set old new g.0 setting (ap (λ (s : StateOf). s.tables) sets) (ap (λ (s : StateOf). s.bytes) sets) (ap (λ (s : StateOf). s.flights) sets) listed (ap (λ (s : StateOf). s.order) sets)) tt tt

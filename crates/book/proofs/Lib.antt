@@ -11,3 +11,4 @@ pub mod HistoryLemmas
 pub mod TicketLemmas
 pub mod CallLemmas
 pub mod PassLemmas
+mod KillLemmas

@@ -67,6 +67,7 @@ entries-needed s what (decision.Take target found) is = sym (asks-need s.tables 
 entries-needed s what decision.Wait is = sym (asks-need s.tables what is.fits.0 false is.fits.1 is.fits.2)
 entries-needed s what decision.Nothing is = nothing_found s.tables what is.fits
 entries-needed s what (decision.Kill limit t) is = sym (asks-need s.tables what limit.0 false (relieved s.tables what limit.0 is.fits) is.sound.1.untakeable)
+entries-needed s what (decision.KillAll limit victim h) is = sym (asks-need s.tables what limit.0 false (relieved s.tables what limit.0 is.fits) is.sound.1.untakeable)
 entries-needed s what (decision.NoVictim limit) is = sym (asks-need s.tables what limit.0 false (relieved s.tables what limit.0 is.fits) is.sound.1.untakeable)
 entries-needed s what (decision.Spawn t g) is = sym (ap (need s.tables) is.fits)
 entries-needed s what (decision.Fork t child) is = sym (ap (need s.tables) is.fits)

@@ -46,6 +46,9 @@ use Rattle.machine.proofs.Values.{some_inj}
 use Rattle.std.proofs.lemmas.Bool.{and_parts}
 use Rattle.std.proofs.lemmas.Bool.Decides.{nat_tests}
 use Rattle.machine.specs.declared.record.Limits.{Limits}
+use Rattle.machine.specs.declared.record.OomGroup.{OomGroup}
+use Rattle.machine.specs.declared.record.OomGroup.TheVariants.{Single}
+use Rattle.legal.proofs.Did.{setting-is}
 use Rattle.machine.specs.declared.record.EventCounts.{EventCounts}
 use Rattle.machine.specs.Tree.{Node}
 
@@ -73,9 +76,9 @@ is_done answer = false
 pub still-self : (s : StateOf) → IsStill s s
 still-self s = record { pages = refl; tasks = refl; page_tables = refl; bytes = refl; flights = refl; opening = refl }
 
--- groups come or go, and their limits and counts change
-still-groups : (old new : StateOf) (tree : List Node) (limits : List Limits) (counted : List EventCounts) → new.tables ≡ record old.tables { tree = tree; limits = limits; counted = counted } → new.bytes ≡ old.bytes → new.flights ≡ old.flights → IsStill old new
-still-groups old new tree limits counted tables bytes flights =
+-- groups come or go, and their limits, flags and counts change
+still-groups : (old new : StateOf) (tree : List Node) (limits : List Limits) (flags : List OomGroup) (counted : List EventCounts) → new.tables ≡ record old.tables { tree = tree; limits = limits; flags = flags; counted = counted } → new.bytes ≡ old.bytes → new.flights ≡ old.flights → IsStill old new
+still-groups old new tree limits flags counted tables bytes flights =
     record {
       pages = ap (λ (s : State). s.pages) tables;
       tasks = ap (λ (s : State). s.tasks) tables;
@@ -86,7 +89,7 @@ still-groups old new tree limits counted tables bytes flights =
     }
 
 pub still-counts : (old new : StateOf) (g : ℕ) (key : Key) → new ≡ counts_event old g key → IsStill old new
-still-counts old new g key counts = still-groups old new _ _ _ (ap (λ (s : StateOf). s.tables) counts) (ap (λ (s : StateOf). s.bytes) counts) (ap (λ (s : StateOf). s.flights) counts)
+still-counts old new g key counts = still-groups old new _ _ _ _ (ap (λ (s : StateOf). s.tables) counts) (ap (λ (s : StateOf). s.bytes) counts) (ap (λ (s : StateOf). s.flights) counts)
 
 -- ---- the order
 
@@ -274,19 +277,18 @@ frameless_step s over free Granted none is = rw none (rw is (refl, refl))
 -- ---- groups
 
 pub makes_step-mkdir : (old new : StateOf) (path : List ℕ)
-    → new.tables ≡ record old.tables { tree = old.tables.tree ++ new_node old.tables.tree path ∷ []; limits = old.tables.limits ++ no_limits ∷ []; counted = old.tables.counted ++ no_counts ∷ [] } → new.bytes ≡ old.bytes → new.flights ≡ old.flights
+    → new.tables ≡ record old.tables { tree = old.tables.tree ++ new_node old.tables.tree path ∷ []; limits = old.tables.limits ++ no_limits ∷ []; flags = old.tables.flags ++ Single ∷ []; counted = old.tables.counted ++ no_counts ∷ [] } → new.bytes ≡ old.bytes → new.flights ≡ old.flights
     → AddsLists old.order new.order → MakesStep old (event.Mkdir path) reply.Ok new
 makes_step-mkdir old new path tables bytes flights adds =
     makes_step-still old new (event.Mkdir path) reply.Ok
-    (still-groups old new _ _ _ tables bytes flights) (record { says = λ spot. refl; given = refl }) tables (order-more old new adds) tt (omega arith)
+    (still-groups old new _ _ _ _ tables bytes flights) (record { says = λ spot. refl; given = refl }) tables (order-more old new adds) tt (omega arith)
 
-pub makes_step-set : (old new : StateOf) (g : ℕ) (setting : Setting)
-    → new.tables ≡ record old.tables { limits = slice_set old.tables.limits g (with_setting (limits_at old.tables.limits g) setting) } → new.bytes ≡ old.bytes → new.flights ≡ old.flights
-    → InOrder old → new.order ≡ old.order
+pub makes_step-set : (old new : StateOf) (g : ℕ) (setting : Setting) → new.tables ≡ with_setting old.tables g setting → new.bytes ≡ old.bytes → new.flights ≡ old.flights → InOrder old → new.order ≡ old.order
     → MakesStep old (event.Set (record { 0 = g }) setting) reply.Ok new
 makes_step-set old new g setting tables bytes flights listed order =
+    let is = tables ∙ setting-is old.tables g setting in
     makes_step-still old new (event.Set (record { 0 = g }) setting) reply.Ok
-    (still-groups old new _ _ _ tables bytes flights) (record { says = λ spot. refl; given = refl }) tables (order-still old new listed (ap (λ (s : State). s.pages) tables) order) tt (omega arith)
+    (still-groups old new _ _ _ _ is bytes flights) (record { says = λ spot. refl; given = refl }) tables (order-still old new listed (ap (λ (s : State). s.pages) is) order) tt (omega arith)
 
 pub makes_step-show : (s : StateOf) (what : Query) (numbers : Shown) → InOrder s → numbers ≡ shown_of s.tables what
     → MakesStep s (event.Show what) (reply.Shown numbers) s

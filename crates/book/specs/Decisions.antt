@@ -19,8 +19,10 @@ use Rattle.machine.specs.declared.record.EventCounts.{EventCounts}
 use Rattle.machine.specs.declared.record.Key.TheVariants as key
 use Rattle.machine.specs.Counts.{with_event}
 use Rattle.machine.specs.Reclaim.{stands, target_of, has_open, has_takeable, has_transfer}
+use Rattle.machine.specs.declared.id.TaskId.{TaskId}
+use Rattle.oom.specs.declared.Chosen.{Chosen}
 use Rattle.reclaim.specs.declared.cursors.Served.{Served}
-use Rattle.machine.specs.Victim.{IsVictim}
+use Rattle.machine.specs.Victim.{IsVictim, kill_group_of}
 use Rattle.machine.specs.Lists.{Order, served}
 use Rattle.machine.specs.History.{Spot, spot_of}
 use Rattle.pages.specs.PagesOf.{Label, labelled, memory_of, HasResidence}
@@ -119,7 +121,10 @@ abbrev pub IsSound : State → Order → Decision → Type 0
 IsSound s order (decision.Access fault met) = IsFault s fault × MeetsSo s fault met × HasRoomFor s fault
 IsSound s order (decision.Lacks fault why) = IsFault s fault × LacksRoomFor s fault why
 IsSound s order (decision.Take target found) = (is_live s.tree target.0 ≡ true) × (served s order target.0 ≡ Some found.group.0) × (has_takeable s target.0 ≡ true) × (is_live s.tree found.group.0 ≡ true) × (found.low_reclaim ≡ not (has_open s target.0))
-IsSound s order (decision.Kill limit t) = (is_live s.tree limit.0 ≡ true) × IsIdleFor s limit.0 × IsVictim s.tree s.tasks s.page_tables limit.0 (Some t.0)
+IsSound s order (decision.Kill limit t) =
+    (is_live s.tree limit.0 ≡ true) × IsIdleFor s limit.0 × IsVictim s.tree s.tasks s.page_tables limit.0 (Some t.0) × (kill_group_of s.tree s.flags s.tasks limit.0 t.0 ≡ None)
+IsSound s order (decision.KillAll limit victim h) =
+    (is_live s.tree limit.0 ≡ true) × IsIdleFor s limit.0 × IsVictim s.tree s.tasks s.page_tables limit.0 (Some victim.0) × (kill_group_of s.tree s.flags s.tasks limit.0 victim.0 ≡ Some h.0)
 IsSound s order (decision.NoVictim limit) = (is_live s.tree limit.0 ≡ true) × IsIdleFor s limit.0 × IsVictim s.tree s.tasks s.page_tables limit.0 None
 IsSound s order (decision.Fork t child) = HasLife s t.0 Live × (number_refusal s.tasks child.0 ≡ None)
 IsSound s order (decision.Free t at) = HasLife s t.0 Live × (at < task_pages)
@@ -168,6 +173,7 @@ Fits s what (decision.Take target found) = AsksPage s what target.0
 Fits s what decision.Wait = (target : ℕ) × AsksPage s what target × (has_takeable s target ≡ false) × (has_transfer s target ≡ true)
 Fits s what decision.Nothing = FindsNothing s what
 Fits s what (decision.Kill limit t) = WantsRoom s what limit.0
+Fits s what (decision.KillAll limit victim h) = WantsRoom s what limit.0
 Fits s what (decision.NoVictim limit) = WantsRoom s what limit.0
 Fits s what (decision.Spawn t g) = what ≡ event.Spawn t g
 Fits s what (decision.Fork t child) = what ≡ event.Fork t child
@@ -184,6 +190,14 @@ pub record IsDecided (s : StateOf) (what : Event) (decided : Decision) : Type 0 
   pub none : refusal s.tables what ≡ None
   pub sound : IsSound s.tables s.order decided
   pub fits : Fits s.tables what decided
+
+-- how the chosen task dies: alone, or with its group
+abbrev pub kill_with : GroupId → TaskId → Option GroupId → Decision
+kill_with limit victim None = decision.Kill limit victim
+kill_with limit victim (Some h) = decision.KillAll limit victim h
+
+abbrev pub kill_of : GroupId → Chosen → Decision
+kill_of limit chosen = kill_with limit chosen.victim chosen.group
 
 -- ---- what it needs
 

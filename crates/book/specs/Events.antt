@@ -50,6 +50,7 @@ reply_of (reply.Out ticket) = said.Out (record { 0 = ticket.number })
 reply_of reply.Wait = said.Wait
 reply_of reply.Nothing = said.Nothing
 reply_of (reply.KilledTask task) = said.KilledTask task
+reply_of (reply.KilledAll victim group tasks) = said.KilledAll victim group tasks
 reply_of reply.NoVictim = said.NoVictim
 reply_of (reply.Shown numbers) = said.Shown numbers
 reply_of (reply.Refused why) = said.Refused why

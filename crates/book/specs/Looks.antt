@@ -10,6 +10,7 @@ use Rattle.machine.specs.State.{State, usage, stat_of}
 use Rattle.machine.specs.Generations.{gens_at}
 use Rattle.machine.specs.Lists.{Order}
 use Rattle.book.specs.declared.looks.GroupLook.{GroupLook}
+use Rattle.book.specs.declared.looks.Victim.{Victim}
 
 -- a group: what is charged to it and below it, its settings, and what was counted at itself
 abbrev pub group_look : State → ℕ → GroupLook
@@ -30,3 +31,7 @@ max_seq_at s order path = option_map (λ g. (gens_at order.held.groups g).max_se
 -- how many tasks live in a group at or under the limit
 abbrev pub candidates : List Node → Tasks → ℕ → ℕ
 candidates tree tasks limit = count_there (is_live_under tree limit) tasks
+
+-- who dies, and the group that dies with it, by number
+abbrev pub dying_of : Victim → ℕ × Option ℕ
+dying_of victim = (victim.task.0, option_map (λ g. g.0) victim.group)

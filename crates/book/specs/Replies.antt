@@ -30,6 +30,7 @@ IsReliefReply reply.Dropped = Unit {0}
 IsReliefReply (reply.Out ticket) = Unit {0}
 IsReliefReply reply.Wait = Unit {0}
 IsReliefReply (reply.KilledTask task) = Unit {0}
+IsReliefReply (reply.KilledAll victim group tasks) = Unit {0}
 IsReliefReply reply.NoVictim = Unit {0}
 IsReliefReply (reply.Refused why) = Unit {0}
 IsReliefReply said = ⊥

@@ -43,6 +43,11 @@ pub fn apply(state: &mut State, alloc: Global, decided: Decision<'_>) -> Result<
         Decision::Wait => Ok(Reply::Wait),
         Decision::Nothing => Ok(Reply::Nothing),
         Decision::Kill { limit, task } => Ok(kill(state, limit, task)),
+        Decision::KillAll {
+            limit,
+            victim,
+            group,
+        } => Ok(kill_all(state, limit, victim, group)),
         Decision::NoVictim(limit) => {
             state.count(limit, Key::Oom);
             Ok(Reply::NoVictim)
@@ -182,7 +187,7 @@ fn count_low(state: &mut State, served: Served)
     }
 }
 
-/// Nothing can be reclaimed under the limit, and the task is killed for it.
+/// Nothing can be reclaimed under the limit, and the task is killed for it, alone.
 fn kill(state: &mut State, limit: GroupId, task: TaskId) -> Reply
     requires few { AreFew state.old.tables }
     requires sound { IsSound state.old.tables state.old.order (decision.Kill limit task) }
@@ -196,6 +201,24 @@ fn kill(state: &mut State, limit: GroupId, task: TaskId) -> Reply
     state.count(known.group, Key::OomKill);
     state.end_task(task, Life::Killed);
     Reply::KilledTask(task)
+}
+
+/// Nothing can be reclaimed under the limit, and all tasks of the group are killed for it, at once (kernel:
+/// oom_kill_process, mem_cgroup_scan_tasks with oom_kill_memcg_member).
+fn kill_all(state: &mut State, limit: GroupId, victim: TaskId, group: GroupId) -> Reply
+    requires few { AreFew state.old.tables }
+    requires sound { IsSound state.old.tables state.old.order (decision.KillAll limit victim group) }
+    ensures { Carries state.old (decision.KillAll limit victim group) result state.new }
+{
+    state.is_joined();
+    state.tree().groups_form_a_tree();
+    let tasks = state.count_group_kill(limit, group);
+    state.end_tasks(group, Life::Killed);
+    Reply::KilledAll {
+        victim,
+        group,
+        tasks,
+    }
 }
 
 /// Another value for a setting of a group.
@@ -217,6 +240,7 @@ fn shown(state: &State, query: Query) -> Shown
         Query::Current(group) => Shown::Pages(state.usage(group)),
         Query::Max(group) => Shown::Amount(state.limits(group).max),
         Query::Guard(guard, group) => Shown::Amount(state.limits(group).guard(guard)),
+        Query::OomGroup(group) => Shown::Flag(state.flags().flag(group)),
         Query::Events(group) => Shown::Events(state.events(group)),
         Query::EventsLocal(group) => Shown::Events(state.local_events(group)),
         Query::Stat(group) => Shown::Stat(state.stat(group)),

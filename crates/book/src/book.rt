@@ -683,6 +683,15 @@ fn plain(reply: &Reply) -> PlainReply
         Reply::Wait => PlainReply::Wait,
         Reply::Nothing => PlainReply::Nothing,
         Reply::KilledTask(task) => PlainReply::KilledTask(*task),
+        Reply::KilledAll {
+            victim,
+            group,
+            tasks,
+        } => PlainReply::KilledAll {
+            victim: *victim,
+            group: *group,
+            tasks: *tasks,
+        },
         Reply::NoVictim => PlainReply::NoVictim,
         Reply::Shown(numbers) => PlainReply::Shown(*numbers),
         Reply::Refused(why) => PlainReply::Refused(*why),

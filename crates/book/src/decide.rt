@@ -12,7 +12,7 @@ ghost use Rattle.machine.specs.declared.refusal.Refusal.{Refusal as Refusal_of};
 ghost use Rattle.machine.specs.Refusals.{refusal, task_refusal, below_target, bars_children, bars_tasks, file_refusal, show_refusal, spawn_refusal, attach_refusal, rmdir_refusal};
 ghost use Rattle.book.specs.MakesStep.{IsAsked};
 ghost use Rattle.book.specs.Spots.{holder};
-ghost use Rattle.book.specs.Decisions.{spot_at, IsFault, Finds, met_by, MeetsSo, RunsIn, IsDecided};
+ghost use Rattle.book.specs.Decisions.{spot_at, IsFault, Finds, met_by, MeetsSo, RunsIn, kill_of, IsDecided};
 
 use crate::decision::{Decision, Meeting, PageFault};
 use machine::bytes::PAGE_BYTES;
@@ -21,7 +21,7 @@ use machine::id::{FrameId, GroupId, PageId, TaskId};
 use machine::limit::TASK_PAGES;
 use machine::record::Life;
 use machine::refusal::Refusal;
-use oom::victim;
+use oom::{Chosen, victims};
 use page_state::State;
 use pages::{FilePage, Residence, Source};
 
@@ -225,7 +225,7 @@ fn meet_held(state: &State, fault: PageFault, page: PageId, frame: FrameId) -> M
 // ---- reclaim
 
 /// Relief: room is not wanted any more; or a page is taken; or one in transfer may come free; or the worst
-/// task is killed, if there is one.
+/// task is killed, if there is one, alone or with a group.
 fn decide_relief<'e>(state: &State, cause: Cause) -> Decision<'e>
     ensures { IsDecided state.now (event.Relieve cause) result }
 {
@@ -240,12 +240,26 @@ fn decide_relief<'e>(state: &State, cause: Cause) -> Decision<'e>
     if state.has_transfer(target) {
         return Decision::Wait;
     }
-    match victim(state.tree(), state.spaces(), target) {
-        Some(task) => Decision::Kill {
-            limit: target,
-            task,
-        },
+    match victims(state.tree(), state.spaces(), state.flags(), target) {
+        Some(chosen) => decide_kill(target, chosen),
         None => Decision::NoVictim(target),
+    }
+}
+
+/// The victim is killed alone, or with its group.
+fn decide_kill<'e>(limit: GroupId, chosen: Chosen) -> Decision<'e>
+    ensures { result ≡ kill_of limit chosen }
+{
+    match chosen.group {
+        Some(group) => Decision::KillAll {
+            limit,
+            victim: chosen.victim,
+            group,
+        },
+        None => Decision::Kill {
+            limit,
+            task: chosen.victim,
+        },
     }
 }
 
@@ -437,6 +451,7 @@ fn show_refusal(state: &State, query: Query) -> Option<Refusal>
         Query::Current(group)
         | Query::Max(group)
         | Query::Guard(_, group)
+        | Query::OomGroup(group)
         | Query::Events(group)
         | Query::EventsLocal(group)
         | Query::Stat(group) => file_refusal(state, group),

@@ -65,31 +65,61 @@ pub enum Decision<'e> {
     /// Room is not wanted any more.
     Room,
     /// This group gives the next page to a reclaim of the target.
-    Take { target: GroupId, served: Served },
+    Take {
+        target: GroupId,
+        served: Served,
+    },
     /// No page can be taken, but one in transfer may come free.
     Wait,
     /// No page can be taken, none is in transfer, and nobody is killed for it.
     Nothing,
-    /// No page can be taken, none is in transfer, and this task is killed for it.
-    Kill { limit: GroupId, task: TaskId },
+    /// No page can be taken, none is in transfer, and this task is killed for it, alone.
+    Kill {
+        limit: GroupId,
+        task: TaskId,
+    },
+    /// The same, and all tasks of this group and of those below it are killed, as the victim is one of them.
+    KillAll {
+        limit: GroupId,
+        victim: TaskId,
+        group: GroupId,
+    },
     /// The same, and there is nobody to kill.
     NoVictim(GroupId),
     /// A task begins.
-    Spawn { task: TaskId, group: GroupId },
+    Spawn {
+        task: TaskId,
+        group: GroupId,
+    },
     /// A task begins that shows what this live one shows.
-    Fork { task: TaskId, child: TaskId },
+    Fork {
+        task: TaskId,
+        child: TaskId,
+    },
     /// A virtual page of a live task shows nothing any more.
-    Free { task: TaskId, at: u32 },
+    Free {
+        task: TaskId,
+        at: u32,
+    },
     /// A live task goes to another group.
-    Attach { task: TaskId, group: GroupId },
+    Attach {
+        task: TaskId,
+        group: GroupId,
+    },
     /// A live task ends by itself.
     Exit(TaskId),
     /// A group is made below this one.
-    Mkdir { parent: GroupId, path: &'e str },
+    Mkdir {
+        parent: GroupId,
+        path: &'e str,
+    },
     /// A group goes, and its pages are its parent's.
     Rmdir(GroupId),
     /// A setting of a group changes.
-    Set { group: GroupId, setting: Setting },
+    Set {
+        group: GroupId,
+        setting: Setting,
+    },
     /// Numbers are shown.
     Show(Query),
 }

@@ -52,7 +52,10 @@ pub enum Event {
 #[must_use]
 pub enum Reply {
     /// The byte read or written, and the frame that was hit.
-    Done { byte: u8, hit: Option<FrameId> },
+    Done {
+        byte: u8,
+        hit: Option<FrameId>,
+    },
     /// The page is being read in: whoever asked reads the ticket's block, and ends the transfer.
     Fetch(InTicket),
     /// No charge: this is the lowest group without room.
@@ -74,8 +77,15 @@ pub enum Reply {
     Wait,
     /// There is no page to be taken, and none in transfer.
     Nothing,
-    /// Relief killed this task.
+    /// Relief killed this task, and it alone.
     KilledTask(TaskId),
+    /// Relief chose this victim, and killed all tasks of this group and of those below it: so many, the
+    /// victim counted.
+    KilledAll {
+        victim: TaskId,
+        group: GroupId,
+        tasks: u32,
+    },
     /// Relief found nobody to kill.
     NoVictim,
     Shown(Shown),

@@ -4,8 +4,8 @@ ghost use Rattle.std.specs.Prelude.{◌≡◌, ◌+◌, length, option_map, IfSo
 ghost use Rattle.machine.specs.Pages.{used_frames, used_swap, in_transfer};
 ghost use Rattle.machine.specs.Reclaim.{target_of};
 ghost use Rattle.machine.specs.Tasks.{size_of};
-ghost use Rattle.machine.specs.Victim.{IsVictim};
-ghost use Rattle.book.specs.Looks.{look_at, stat_at, max_seq_at, candidates};
+ghost use Rattle.machine.specs.Victim.{IsVictims};
+ghost use Rattle.book.specs.Looks.{look_at, stat_at, max_seq_at, candidates, dying_of};
 
 use crate::book::Book;
 use crate::decide::target_of;
@@ -13,7 +13,7 @@ use machine::amount::Amount;
 use machine::event::Cause;
 use machine::id::{GroupId, TaskId};
 use machine::record::{EventCounts, MemoryStat};
-use oom::{is_candidate, victim};
+use oom::{is_candidate, victims};
 use page_state::State;
 
 /// What is known of a group at a time.
@@ -43,6 +43,8 @@ pub struct Victim {
     pub tasks: u32,
     /// The group under which room is wanted.
     pub limit: GroupId,
+    /// The group that dies with it: all its live tasks and those below it. `None` where it dies alone.
+    pub group: Option<GroupId>,
 }
 
 /// What is free and what is under way in a whole machine.
@@ -121,21 +123,27 @@ impl Book {
         Some(self.state.max_seq(group))
     }
 
-    /// Whom a relief for this cause takes if it kills a task now, which it does only where the cause stands, no page
+    /// Whom a relief for this cause takes, and the group that dies with it, if it kills a task now, which it does only where the cause stands, no page
     /// can be taken and none is in transfer. It goes over all task numbers.
     pub fn victim(&self, cause: Cause) -> Option<Victim>
-        ensures who { IsVictim self.now.state.tree self.now.state.tasks self.now.state.page_tables (target_of cause) (option_map (λ v. v.task.0) result) }
+        ensures who { IsVictims self.now.state.tree self.now.state.flags self.now.state.tasks self.now.state.page_tables (target_of cause) (option_map dying_of result) }
         ensures pages { IfSome result (λ v. v.pages ≡ size_of self.now.state.page_tables v.task.0) }
         ensures tasks { IfSome result (λ v. v.tasks ≡ candidates self.now.state.tree self.now.state.tasks (target_of cause)) }
         ensures limit { IfSome result (λ v. v.limit.0 ≡ target_of cause) }
     {
         let limit = target_of(cause);
-        let task = victim(self.state.tree(), self.state.spaces(), limit)?;
+        let chosen = victims(
+            self.state.tree(),
+            self.state.spaces(),
+            self.state.flags(),
+            limit,
+        )?;
         Some(Victim {
-            task,
-            pages: self.state.spaces().size(task),
+            task: chosen.victim,
+            pages: self.state.spaces().size(chosen.victim),
             tasks: candidates(&self.state, limit),
             limit,
+            group: chosen.group,
         })
     }
 }

@@ -84,6 +84,11 @@ fn spend(reply: Reply)
         Reply::Done { byte: _, hit: _ } | Reply::Over(_) | Reply::NoFrame | Reply::Busy => {}
         Reply::Killed | Reply::Ok | Reply::Room | Reply::Dropped | Reply::Wait => {}
         Reply::Nothing | Reply::KilledTask(_) | Reply::NoVictim | Reply::Shown(_) => {}
+        Reply::KilledAll {
+            victim: _,
+            group: _,
+            tasks: _,
+        } => {}
         Reply::Refused(_) => {}
     }
 }

@@ -1,7 +1,7 @@
 //! The picture: a curve for each group over the lines of the script.
 
 use crate::scale::{Scale, Size, line_marks, page_marks, pixels};
-use crate::watching::{Row, Watched};
+use crate::watching::{Kill, Row, Watched};
 use book::GroupLook;
 use machine::amount::Amount;
 use std::alloc::{AllocError, Global};
@@ -394,12 +394,24 @@ impl<'s> Board<'s> {
         for kill in &watched.kills {
             let line = self.line_of(kill.step as u64);
             let x = pixels(self.alloc, self.across(line))?;
-            let task = kill.task.0;
+            let who = killed(self.alloc, *kill)?;
             out.push_str(&format!(in self.alloc;
-                "<path d=\"M{x} 50m-5 -5l10 10m0 -10l-10 10\" stroke=\"#d62728\" stroke-width=\"2.5\"><title>line {line}: task {task} was killed</title></path>\n"
+                "<path d=\"M{x} 50m-5 -5l10 10m0 -10l-10 10\" stroke=\"#d62728\" stroke-width=\"2.5\"><title>line {line}: {who}</title></path>\n"
             )?)?;
         }
         Ok(())
+    }
+}
+
+/// Who was killed.
+fn killed(alloc: Global, kill: Kill) -> Result<String, AllocError> {
+    let task = kill.task.0;
+    match kill.with_group {
+        None => format!(in alloc; "task {task} was killed"),
+        Some(1) => format!(in alloc; "a group was killed as one, 1 task: {task}"),
+        Some(tasks) => format!(in alloc;
+            "a group was killed as one, {tasks} tasks, of which {task} was the victim"
+        ),
     }
 }
 

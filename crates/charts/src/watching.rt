@@ -37,6 +37,25 @@ pub struct Row {
 pub struct Kill {
     pub step: usize,
     pub task: TaskId,
+    /// How many died with a group that was killed as one, itself among them. `None` where it died alone.
+    pub with_group: Option<u32>,
+}
+
+/// The kill that an answer of the step tells.
+fn kill_of(step: usize, answer: &Answer) -> Option<Kill> {
+    match answer {
+        Answer::Kill(task) => Some(Kill {
+            step,
+            task: *task,
+            with_group: None,
+        }),
+        Answer::KillAll { victim, tasks } => Some(Kill {
+            step,
+            task: *victim,
+            with_group: Some(*tasks),
+        }),
+        _ => None,
+    }
 }
 
 /// What a run showed.
@@ -162,8 +181,8 @@ impl<'p> Sink for Watcher<'p> {
     ghost saw = { λ a b pasts. IsShown a.is_lost b.is_lost a.is_detailed b.is_detailed (map (λ p. p.now) a.paths.now) (map (λ p. p.now) b.paths.now) a.rows.items b.rows.items pasts };
 
     fn take(&mut self, step: usize, reply: Reply) -> Result<(), Closed> {
-        if let Answer::Kill(task) = reply.answer {
-            if self.kills.push(Kill { step, task }).is_err() {
+        if let Some(kill) = kill_of(step, &reply.answer) {
+            if self.kills.push(kill).is_err() {
                 self.is_lost = true;
             }
         }

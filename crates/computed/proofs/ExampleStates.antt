@@ -9,6 +9,8 @@ use Rattle.machine.specs.declared.id.PageId.{PageId}
 use Rattle.machine.specs.declared.id.TicketId.{TicketId}
 use Rattle.machine.specs.declared.record.Life.TheVariants.{Live, Exited, Killed}
 use Rattle.machine.specs.declared.record.Limits.{Limits}
+use Rattle.machine.specs.declared.record.OomGroup.{OomGroup}
+use Rattle.machine.specs.declared.record.OomGroup.TheVariants.{Single}
 use Rattle.machine.specs.Tree.{Node, root}
 use Rattle.machine.specs.Pages.{Memory, OfFile, Residence, Held, Coming, Going, Away, Page, Pages}
 use Rattle.machine.specs.Counts.{no_limits, no_counts}
@@ -54,6 +56,10 @@ min_of n = record no_limits { min = amount.Pages n }
 abbrev pub low_of : ℕ → Limits
 low_of n = record no_limits { low = amount.Pages n }
 
+-- the flags of so many groups, none of which is killed as one
+abbrev pub single : ℕ → List OomGroup
+single n = replicate n Single
+
 -- ---- a state with a page in each residence, and a task in each life
 
 -- a page of memory of a group
@@ -87,6 +93,7 @@ busy = record {
   opening = opening;
   tree = tree;
   limits = no_limits ∷ max_of 4 ∷ max_of 3 ∷ no_limits ∷ no_limits ∷ no_limits ∷ [];
+  flags = single 6;
   pages = pages;
   tasks = tasks;
   page_tables = tables;
@@ -149,6 +156,7 @@ stuck = record {
   opening = record opening { swap = 0 };
   tree = tree;
   limits = no_limits ∷ max_of 3 ∷ no_limits ∷ no_limits ∷ no_limits ∷ no_limits ∷ [];
+  flags = single 6;
   pages = Some (memory 2 (Held 0)) ∷ Some (memory 3 (Held 1)) ∷ Some (memory 3 (Held 2)) ∷ [];
   tasks = None ∷ Some (task_of 2 Live) ∷ Some (task_of 3 Live) ∷ [];
   page_tables = [] ∷ (shows 0 ∷ []) ∷ (shows 1 ∷ shows 2 ∷ []) ∷ [];

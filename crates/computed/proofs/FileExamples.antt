@@ -26,7 +26,7 @@ use Rattle.machine.specs.Lists.{shown_at, is_in_bits}
 use Rattle.machine.specs.Step.{in_frame, on_block, touched, shown_of, LeavesFrom, Step}
 use Rattle.machine.proofs.Values.{some_inj}
 use Rattle.machine.proofs.TakeableLemmas.{next-takeable}
-use Rattle.computed.proofs.ExampleStates.{group, task, frame, shows, tree, max_of, memory, opening}
+use Rattle.computed.proofs.ExampleStates.{group, task, frame, shows, tree, max_of, single, memory, opening}
 use Rattle.std.specs.Prelude.{replicate}
 
 -- ---- a state
@@ -48,6 +48,7 @@ caching = record {
   opening = record opening { files = 3 ∷ 3 ∷ [] };
   tree = tree;
   limits = [];
+  flags = single 6;
   pages = kept;
   tasks = None ∷ Some (task_of 2 Live) ∷ Some (task_of 3 Live) ∷ [];
   page_tables = [] ∷ (shows 0 ∷ []) ∷ [];

@@ -22,7 +22,7 @@ use Rattle.machine.specs.History.{Spot, InTask, InFile, at_first, last, Right, H
 use Rattle.machine.specs.Legal.{Extends, Legal}
 use Rattle.computed.proofs.LegalExamples.{entry}
 use Rattle.computed.proofs.FileExamples.{cached}
-use Rattle.computed.proofs.ExampleStates.{group, task, frame, ticket, below}
+use Rattle.computed.proofs.ExampleStates.{group, task, frame, ticket, below, single}
 
 -- ---- the history
 
@@ -90,10 +90,10 @@ abbrev fixed : Opening
 fixed = record { frames = 4; swap = 0; files = 1 ∷ 2 ∷ []; watermarks = record { low = 0; high = 0 }; trace_limit = 14; recursive = false }
 
 abbrev with_a : State
-with_a = record (first_state fixed) { tree = root ∷ below 0 (codes "/a") ∷ []; limits = no_limits ∷ no_limits ∷ []; counted = no_counts ∷ no_counts ∷ [] }
+with_a = record (first_state fixed) { tree = root ∷ below 0 (codes "/a") ∷ []; limits = no_limits ∷ no_limits ∷ []; flags = single 2; counted = no_counts ∷ no_counts ∷ [] }
 
 abbrev with_both : State
-with_both = record (first_state fixed) { tree = root ∷ below 0 (codes "/a") ∷ below 0 (codes "/b") ∷ []; limits = no_limits ∷ no_limits ∷ no_limits ∷ []; counted = no_counts ∷ no_counts ∷ no_counts ∷ [] }
+with_both = record (first_state fixed) { tree = root ∷ below 0 (codes "/a") ∷ below 0 (codes "/b") ∷ []; limits = no_limits ∷ no_limits ∷ no_limits ∷ []; flags = single 3; counted = no_counts ∷ no_counts ∷ no_counts ∷ [] }
 
 abbrev one_task : State
 one_task = record with_both { tasks = None ∷ Some (task_of 1 Live) ∷ [] }

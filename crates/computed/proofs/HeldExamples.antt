@@ -6,6 +6,7 @@ use Rattle.machine.specs.declared.event.Place.TheVariants.{Virtual}
 use Rattle.machine.specs.declared.event.Event.{Event}
 use Rattle.machine.specs.declared.event.Event.TheVariants as event
 use Rattle.machine.specs.declared.record.Life.TheVariants.{Live, Exited}
+use Rattle.machine.specs.declared.record.OomGroup.TheVariants.{Single}
 use Rattle.machine.specs.declared.reply.Reply.{Reply}
 use Rattle.machine.specs.declared.reply.Reply.TheVariants as reply
 use Rattle.machine.specs.Pages.{Held, Coming, Going, Away, Page, Pages, is_held_in, is_number}
@@ -335,7 +336,7 @@ abbrev mkdir : Event
 mkdir = event.Mkdir (codes "/p/c")
 
 abbrev with_six : State
-with_six = record busy { tree = busy.tree ++ new_node busy.tree (codes "/p/c") ∷ []; limits = busy.limits ++ no_limits ∷ []; counted = busy.counted ++ no_counts ∷ [] }
+with_six = record busy { tree = busy.tree ++ new_node busy.tree (codes "/p/c") ∷ []; limits = busy.limits ++ no_limits ∷ []; flags = busy.flags ++ Single ∷ []; counted = busy.counted ++ no_counts ∷ [] }
 
 -- group 6 has four generations of each type, no page, and a cursor of its own
 abbrev six_order : Order

@@ -10,10 +10,13 @@ mod CallExamples
 mod TurnExamples
 mod ReliefExamples
 mod LowStepExamples
+mod OomGroupExamples
+mod OomGroupStepExamples
 mod LegalExamples
 mod HistoryExamples
 mod FileHistoryExamples
 mod LowHistoryExamples
+mod OomGroupHistoryExamples
 mod SharingExamples
 mod SharedHistoryExamples
 mod RemovalExamples

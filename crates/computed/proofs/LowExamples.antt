@@ -1,5 +1,6 @@
 -- Examples: memory.low, which keeps pages as long as others have some to give. What it protects, which pages are open, who gives one, and what is counted where none is open.
 use Rattle.std.proofs.Common.{◌≡◌, ℕ, true, false, Bool, List, [], ◌∷◌, ◌++◌, Option, Some, None, refl}
+use Rattle.machine.specs.declared.amount.Amount.{Amount}
 use Rattle.machine.specs.declared.amount.Amount.TheVariants.{Max, Pages}
 use Rattle.machine.specs.declared.event.Setting.TheVariants as setting
 use Rattle.machine.specs.declared.event.Query.TheVariants as query
@@ -14,14 +15,14 @@ use Rattle.machine.specs.declared.reply.Shown.TheVariants as shown
 use Rattle.machine.specs.declared.refusal.Refusal.TheVariants.{NoEntry}
 use Rattle.machine.specs.Tree.{chain_up, chain, under_at, chain_below, preorder_to}
 use Rattle.machine.specs.Pages.{Residence, Held, Going, Away, Page}
-use Rattle.machine.specs.Counts.{no_limits, guard_of, no_counts, local, total}
+use Rattle.machine.specs.Counts.{no_limits, guard_of, no_counts, local, total, count_of}
 use Rattle.machine.specs.Tasks.{task_of}
 use Rattle.machine.specs.Protection.{effective_along}
 use Rattle.machine.specs.State.{State, effective_min, effective_low}
 use Rattle.machine.specs.Refusals.{refusal}
 use Rattle.machine.specs.Reclaim.{is_above_low, is_takeable, has_takeable, is_open, has_open, is_next, counted_at_take, is_idle}
 use Rattle.machine.specs.Lists.{Order, gives, served}
-use Rattle.machine.specs.Events.{count_of, low_named}
+use Rattle.machine.specs.Events.{low_named}
 use Rattle.machine.specs.Step.{with_setting, shown_of, Step}
 use Rattle.computed.proofs.ExampleStates.{group, max_of, min_of, low_of, memory, of_file, shows, opening, busy, listed_at, young, ordered}
 
@@ -536,16 +537,20 @@ guard-min = refl
 guard-new : guard_of guard.Low no_limits ≡ Pages 0
 guard-new = refl
 
+-- /p/b has these limits, and /p/a none
+abbrev limited : Amount → Amount → Amount → State
+limited max min low = full no_limits (record { max = max; min = min; low = low })
+
 -- a low is set, and the other settings stay
-sets-low : with_setting (record { max = Pages 9; min = Pages 2; low = Pages 4 }) (setting.Guard guard.Low (Pages 5)) ≡ record { max = Pages 9; min = Pages 2; low = Pages 5 }
+sets-low : with_setting (limited (Pages 9) (Pages 2) (Pages 4)) 3 (setting.Guard guard.Low (Pages 5)) ≡ limited (Pages 9) (Pages 2) (Pages 5)
 sets-low = refl
 
 -- a min
-sets-min : with_setting (record { max = Pages 9; min = Pages 2; low = Pages 4 }) (setting.Guard guard.Min (Pages 5)) ≡ record { max = Pages 9; min = Pages 5; low = Pages 4 }
+sets-min : with_setting (limited (Pages 9) (Pages 2) (Pages 4)) 3 (setting.Guard guard.Min (Pages 5)) ≡ limited (Pages 9) (Pages 5) (Pages 4)
 sets-min = refl
 
 -- and a max
-sets-max : with_setting (record { max = Pages 9; min = Pages 2; low = Pages 4 }) (setting.Max (Pages 5)) ≡ record { max = Pages 5; min = Pages 2; low = Pages 4 }
+sets-max : with_setting (limited (Pages 9) (Pages 2) (Pages 4)) 3 (setting.Max (Pages 5)) ≡ limited (Pages 5) (Pages 2) (Pages 4)
 sets-max = refl
 
 -- at /p/b alone: a low that is more than the max is one as well

@@ -17,14 +17,14 @@ use Rattle.machine.specs.declared.reply.Shown.TheVariants as shown
 use Rattle.machine.specs.Slots.{at}
 use Rattle.machine.specs.Tree.{root, chain_up, chain, under_at, chain_below}
 use Rattle.machine.specs.Pages.{Residence}
-use Rattle.machine.specs.Counts.{no_limits, over_at, no_counts, how_often}
+use Rattle.machine.specs.Counts.{no_limits, over_at, no_counts, how_often, count_of, with_events}
 use Rattle.machine.specs.Tasks.{task_of, mapped_at}
 use Rattle.machine.specs.Protection.{effective_along}
 use Rattle.machine.specs.State.{State, first_state}
 use Rattle.machine.specs.Legal.{Extends, Legal}
-use Rattle.machine.specs.Events.{count_of, AreCounted, with_events}
+use Rattle.machine.specs.Events.{AreCounted}
 use Rattle.computed.proofs.LegalExamples.{entry, access, small, made, going, away}
-use Rattle.computed.proofs.ExampleStates.{group, task, ticket, shows, below, low_of, memory}
+use Rattle.computed.proofs.ExampleStates.{group, task, ticket, shows, below, low_of, single, memory}
 
 -- ---- the history
 
@@ -63,7 +63,7 @@ h7 = entry 0 5 (asks 1) (reply.Shown (shown.Events (lows 1))) ∷ h6
 -- ---- the states
 
 abbrev with_a : State
-with_a = record (first_state (small 7)) { tree = root ∷ below 0 (codes "/a") ∷ []; limits = no_limits ∷ no_limits ∷ []; counted = no_counts ∷ no_counts ∷ [] }
+with_a = record (first_state (small 7)) { tree = root ∷ below 0 (codes "/a") ∷ []; limits = no_limits ∷ no_limits ∷ []; flags = single 2; counted = no_counts ∷ no_counts ∷ [] }
 
 abbrev with_low : State
 with_low = record with_a { limits = no_limits ∷ low_of 1 ∷ [] }

@@ -11,7 +11,7 @@ use Rattle.machine.specs.declared.reply.Reply.TheVariants as reply
 use Rattle.machine.specs.Slots.{at, there_and}
 use Rattle.machine.specs.Tree.{chain_up, chain, under_at, chain_below, preorder_to}
 use Rattle.machine.specs.Pages.{Content, Memory, OfFile, Residence, Held, Going, Page, page_at, is_held, is_held_in, home_block}
-use Rattle.machine.specs.Counts.{Counted, local, total}
+use Rattle.machine.specs.Counts.{Counted, local, total, count_of}
 use Rattle.machine.specs.Protection.{effective_along}
 use Rattle.machine.specs.State.{State}
 use Rattle.machine.specs.Reclaim.{is_next, counted_at_take}
@@ -20,7 +20,7 @@ use Rattle.machine.specs.Aging.{Seen}
 use Rattle.machine.specs.Eviction.{old_pages, aged_times, Picks}
 use Rattle.machine.specs.Lists.{Order, seen_of, with_seen, is_fresh, TakesNext}
 use Rattle.machine.specs.Step.{StartsLeave, Drops, LeavesBy, LeavesFrom, Takes, Step}
-use Rattle.machine.specs.Events.{count_of, Names}
+use Rattle.machine.specs.Events.{Names}
 use Rattle.machine.specs.Call.{Past, Called}
 use Rattle.machine.proofs.Values.{some_inj, unlike}
 use Rattle.legal.proofs.OrdersLemmas.{taken_is_picked, takes_next_alike}

@@ -24,7 +24,7 @@ use Rattle.machine.specs.Lists.{Order, seen_of, with_seen, is_fresh, is_in_bits,
 use Rattle.machine.specs.Call.{Past, Called}
 use Rattle.machine.proofs.Values.{unlike}
 use Rattle.legal.proofs.OrdersLemmas.{taken_is_picked, orders_alike}
-use Rattle.computed.proofs.ExampleStates.{group, task, frame, ticket, shows, below, max_of, memory, listed_at, young, searched}
+use Rattle.computed.proofs.ExampleStates.{group, task, frame, ticket, shows, below, max_of, single, memory, listed_at, young, searched}
 use Rattle.computed.proofs.CallExamples.{caller, past, after, not_new, other_number, none_marked, stay_unmarked}
 
 -- ---- the states
@@ -39,6 +39,7 @@ state pages table = record {
   opening = small;
   tree = root ∷ below 0 (codes "/g") ∷ [];
   limits = no_limits ∷ max_of 3 ∷ [];
+  flags = single 2;
   pages = pages;
   tasks = None ∷ Some (task_of 1 Live) ∷ [];
   page_tables = [] ∷ table ∷ [];

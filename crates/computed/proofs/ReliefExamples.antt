@@ -1,5 +1,5 @@
 -- Examples of whole calls: a reclaim that takes a page, and a relief that kills. What is not an answer is shown not to be.
-use Rattle.std.proofs.Common.{◌≡◌, ◌≢◌, ℕ, zero, suc, Bool, true, false, List, [], ◌∷◌, Some, None, refl, ap, arith}
+use Rattle.std.proofs.Common.{◌≡◌, ◌≢◌, ℕ, zero, suc, ◌==◌, Bool, true, false, List, [], ◌∷◌, Some, None, refl, ap, eqb-true, arith}
 use Rattle.std.specs.Prelude.{MatchBool}
 use Rattle.machine.specs.declared.event.Cause.TheVariants as cause
 use Rattle.machine.specs.declared.event.Event.{Event}
@@ -10,7 +10,7 @@ use Rattle.machine.specs.declared.reply.Reply.TheVariants as reply
 use Rattle.machine.specs.Tree.{chain_up, chain, under_at, chain_below, preorder_to}
 use Rattle.machine.specs.Pages.{Content, Memory, OfFile, Residence, Held, Going, Page, page_at, is_held_in, home_block}
 use Rattle.machine.specs.declared.record.EventCounts.{EventCounts}
-use Rattle.machine.specs.Tasks.{task_of, mapped_at}
+use Rattle.machine.specs.Tasks.{task_of, group_of_task, mapped_at}
 use Rattle.machine.specs.Protection.{effective_along}
 use Rattle.machine.specs.State.{State}
 use Rattle.machine.specs.Step.{still, Drops, StartsLeave, LeavesBy, LeavesFrom}
@@ -113,7 +113,8 @@ unfolding chain_up chain under_at chain_below effective_along
 kill = record {
   steps = (
     record { among = refl; none_worse = none_worse },
-    record { shown = record { none = λ v. refl; others = others }; pages = stays; ends = record { changed = refl; others = other_tasks }; state = refl },
+    refl,
+    record { none = none; others = others; pages = stays; ends = ends; stays = other_tasks; state = refl },
   );
   order = (record { fresh = None; which = which; groups = refl; size = refl; marks = λ p. stay_unmarked 6 (is_held_in stuck.pages p) (is_held_in killed.pages p) p }, refl);
   history = refl;
@@ -126,10 +127,13 @@ kill = record {
     none_worse (suc (suc zero)) known = refl
     none_worse (suc (suc (suc t))) known = refl
 
-    others : (u w : ℕ) → u ≢ 2 → mapped_at killed.page_tables u w ≡ mapped_at stuck.page_tables u w
+    none : (u w : ℕ) → (u == 2) ≡ true → mapped_at killed.page_tables u w ≡ None
+    none u w gone = rw (eqb-true u 2 gone) refl
+
+    others : (u w : ℕ) → (u == 2) ≡ false → mapped_at killed.page_tables u w ≡ mapped_at stuck.page_tables u w
     others zero w other = refl
     others (suc zero) w other = refl
-    others (suc (suc zero)) w other = absurd (other refl)
+    others (suc (suc zero)) w other = cc
     others (suc (suc (suc u))) w other = refl
 
     stays : (p : ℕ) → page_at killed.pages p ≡ still killed.page_tables p (page_at stuck.pages p)
@@ -138,11 +142,14 @@ kill = record {
     stays (suc (suc zero)) = refl
     stays (suc (suc (suc p))) = refl
 
-    other_tasks : (m : ℕ) → m ≢ 2 → at killed.tasks m ≡ at stuck.tasks m
+    ends : (u : ℕ) → (u == 2) ≡ true → at killed.tasks u ≡ Some (task_of (group_of_task stuck.tasks u) Killed)
+    ends u gone = rw (eqb-true u 2 gone) refl
+
+    other_tasks : (u : ℕ) → (u == 2) ≡ false → at killed.tasks u ≡ at stuck.tasks u
     other_tasks zero other = refl
     other_tasks (suc zero) other = refl
-    other_tasks (suc (suc zero)) other = absurd (other refl)
-    other_tasks (suc (suc (suc m))) other = refl
+    other_tasks (suc (suc zero)) other = cc
+    other_tasks (suc (suc (suc u))) other = refl
 
     which : (p : ℕ) → false ≡ is_fresh stuck.pages killed.pages p
     which zero = refl

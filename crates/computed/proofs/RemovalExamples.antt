@@ -11,6 +11,7 @@ use Rattle.machine.specs.declared.event.Event.TheVariants as event
 use Rattle.machine.specs.declared.amount.Amount.TheVariants as amount
 use Rattle.machine.specs.declared.record.Key.TheVariants as key
 use Rattle.machine.specs.declared.record.Life.TheVariants.{Live, Exited, Killed}
+use Rattle.machine.specs.declared.record.OomGroup.TheVariants.{Single}
 use Rattle.machine.specs.declared.reply.Reply.{Reply}
 use Rattle.machine.specs.declared.reply.Reply.TheVariants as reply
 use Rattle.machine.specs.declared.reply.Shown.TheVariants as shown
@@ -34,7 +35,7 @@ use Rattle.machine.specs.Lists.{Order, served, is_fresh, Orders}
 use Rattle.machine.specs.Call.{Past, is_full_for, Called, grows}
 use Rattle.machine.proofs.Values.{some_inj, never_some, unlike}
 use Rattle.machine.proofs.RemovedLemmas.{usage-removed}
-use Rattle.computed.proofs.ExampleStates.{group, task, ticket, shows, below, tree, memory, of_file, max_of, opening, busy, listed_at, young, searched, none_served}
+use Rattle.computed.proofs.ExampleStates.{group, task, ticket, shows, below, tree, memory, of_file, max_of, single, opening, busy, listed_at, young, searched, none_served}
 use Rattle.computed.proofs.HeldExamples.{page_standing, unlike_number, unlike_mark, unlike_cursor, set_is_not_clear}
 use Rattle.computed.proofs.CallExamples.{caller, past, after, not_new, other_number, stay_unmarked}
 
@@ -104,6 +105,7 @@ left = record {
   opening = record opening { frames = 9 };
   tree = tree;
   limits = no_limits ∷ max_of 9 ∷ no_limits ∷ max_of 4 ∷ no_limits ∷ no_limits ∷ [];
+  flags = single 6;
   pages = left_pages;
   tasks = None ∷ Some (task_of 2 Live) ∷ Some (task_of 5 Live) ∷ Some (task_of 3 Killed) ∷ Some (task_of 3 Exited) ∷ [];
   page_tables = [] ∷ (shows 0 ∷ []) ∷ (None ∷ shows 1 ∷ shows 2 ∷ shows 3 ∷ shows 4 ∷ shows 5 ∷ shows 6 ∷ shows 7 ∷ shows 8 ∷ shows 9 ∷ []) ∷ [];
@@ -365,7 +367,7 @@ mkdir-again = refl
 
 -- which is another group
 abbrev again : State
-again = record removed { tree = removed_tree ++ below 1 (codes "/p/b") ∷ []; limits = removed.limits ++ no_limits ∷ []; counted = removed.counted ++ no_counts ∷ [] }
+again = record removed { tree = removed_tree ++ below 1 (codes "/p/b") ∷ []; limits = removed.limits ++ no_limits ∷ []; flags = removed.flags ++ Single ∷ []; counted = removed.counted ++ no_counts ∷ [] }
 
 makes-again : Step removed (mkdir (codes "/p/b")) reply.Ok again
 makes-again = refl

@@ -7,6 +7,7 @@ use Rattle.machine.specs.declared.event.Event.TheVariants as event
 use Rattle.machine.specs.declared.entry.Entry.{Entry}
 use Rattle.machine.specs.declared.record.Life.TheVariants.{Live}
 use Rattle.machine.specs.declared.record.Limits.{Limits}
+use Rattle.machine.specs.declared.record.OomGroup.TheVariants.{Single}
 use Rattle.machine.specs.declared.refusal.Refusal.TheVariants.{NoEntry, Exists, Busy}
 use Rattle.machine.specs.declared.reply.Reply.{Reply}
 use Rattle.machine.specs.declared.reply.Reply.TheVariants as reply
@@ -86,7 +87,7 @@ a_removed = record { parent = Some 0; path = codes "/a"; live = false }
 
 -- these groups, without limits
 abbrev grouped : List Node → List Limits → State
-grouped tree limits = record (first_state (small 12)) { tree = tree; limits = limits; counted = map (λ l. no_counts) limits }
+grouped tree limits = record (first_state (small 12)) { tree = tree; limits = limits; flags = map (λ l. Single) limits; counted = map (λ l. no_counts) limits }
 
 abbrev first_made : State
 first_made = grouped (root ∷ a_live ∷ []) (no_limits ∷ no_limits ∷ [])

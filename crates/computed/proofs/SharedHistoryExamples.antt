@@ -1,5 +1,5 @@
 -- Examples: the bytes of tasks that fork and free, and whole histories of shared pages: a copy on write, and a page that is read in for all who show it.
-use Rattle.std.proofs.Common.{◌≡◌, ◌≢◌, ℕ, zero, suc, ◌+◌, ◌<◌, ◌==◌, ◌&&◌, true, false, List, [], ◌∷◌, length, Some, None, refl, ne_eqb, arith}
+use Rattle.std.proofs.Common.{◌≡◌, ◌≢◌, ℕ, zero, suc, ◌+◌, ◌<◌, ◌==◌, ◌&&◌, true, false, List, [], ◌∷◌, length, Some, None, refl, ne_eqb, eqb-true, arith}
 use Rattle.std.specs.Prelude.{slice_index}
 use Rattle.machine.specs.declared.event.Op.{Op}
 use Rattle.machine.specs.declared.event.Op.TheVariants.{Read, Write}
@@ -14,7 +14,7 @@ use Rattle.machine.specs.Slots.{at}
 use Rattle.machine.specs.Tree.{chain_up, chain, under_at}
 use Rattle.machine.specs.Pages.{Residence, Held, Away, Pages, page_at}
 use Rattle.machine.specs.Counts.{over_at}
-use Rattle.machine.specs.Tasks.{PageTable, task_of, mapped_at}
+use Rattle.machine.specs.Tasks.{PageTable, task_of, group_of_task, mapped_at}
 use Rattle.machine.specs.State.{State}
 use Rattle.machine.specs.Access.{page_size, Hits, NeedsCopy, NeedsSwapIn, meets}
 use Rattle.machine.specs.Step.{still, Step}
@@ -300,11 +300,14 @@ orphan = record (both made) { tasks = None ∷ Some (task_of 0 Exited) ∷ Some 
 
 -- the exit of the parent leads there
 ends : Step (both made) (event.Exit (task 1)) reply.Ok orphan
-ends = (refl, record { shown = record { none = λ v. refl; others = others }; pages = stays; ends = record { changed = refl; others = other_tasks }; state = refl })
+ends = (refl, record { none = none; others = others; pages = stays; ends = exits; stays = other_tasks; state = refl })
   where
-    others : (u w : ℕ) → u ≢ 1 → mapped_at orphan.page_tables u w ≡ mapped_at (both made).page_tables u w
+    none : (u w : ℕ) → (u == 1) ≡ true → mapped_at orphan.page_tables u w ≡ None
+    none u w gone = rw (eqb-true u 1 gone) refl
+
+    others : (u w : ℕ) → (u == 1) ≡ false → mapped_at orphan.page_tables u w ≡ mapped_at (both made).page_tables u w
     others zero w other = refl
-    others (suc zero) w other = absurd (other refl)
+    others (suc zero) w other = cc
     others (suc (suc u)) w other = refl
 
     stays : (p : ℕ) → page_at orphan.pages p ≡ still orphan.page_tables p (page_at (both made).pages p)
@@ -312,10 +315,13 @@ ends = (refl, record { shown = record { none = λ v. refl; others = others }; pa
     stays (suc zero) = refl
     stays (suc (suc p)) = refl
 
-    other_tasks : (m : ℕ) → m ≢ 1 → at orphan.tasks m ≡ at (both made).tasks m
+    exits : (u : ℕ) → (u == 1) ≡ true → at orphan.tasks u ≡ Some (task_of (group_of_task (both made).tasks u) Exited)
+    exits u gone = rw (eqb-true u 1 gone) refl
+
+    other_tasks : (u : ℕ) → (u == 1) ≡ false → at orphan.tasks u ≡ at (both made).tasks u
     other_tasks zero other = refl
-    other_tasks (suc zero) other = absurd (other refl)
-    other_tasks (suc (suc m)) other = refl
+    other_tasks (suc zero) other = cc
+    other_tasks (suc (suc u)) other = refl
 
 -- a write of the child is a hit then
 ends-then_hits : meets orphan 2 (Virtual 2 1) (Write 6) ≡ Hits 1 (memory 0 made) 3

@@ -16,6 +16,7 @@ pub fn file_named(name: &str) -> Option<ControlFile>
         "memory.max" => Some(ControlFile::Max),
         "memory.min" => Some(ControlFile::Guard(Guard::Min)),
         "memory.low" => Some(ControlFile::Guard(Guard::Low)),
+        "memory.oom.group" => Some(ControlFile::OomGroup),
         "memory.events" => Some(ControlFile::Events),
         "memory.events.local" => Some(ControlFile::EventsLocal),
         "memory.stat" => Some(ControlFile::Stat),
@@ -31,6 +32,7 @@ pub fn has_file(group: GroupId, file: ControlFile) -> bool
     match file {
         ControlFile::Current | ControlFile::Max | ControlFile::Guard(_) => group.0 != 0,
         ControlFile::Events | ControlFile::EventsLocal | ControlFile::Stat => group.0 != 0,
+        ControlFile::OomGroup => group.0 != 0,
         ControlFile::Reclaim => true,
     }
 }

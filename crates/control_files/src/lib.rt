@@ -1,18 +1,20 @@
-//! Control files: their names, the amounts that are written to them, and what they say
+//! Control files: their names, the amounts and flags that are written to them, and what they say
 //! (admin-guide/cgroup-v2, "Memory Interface Files"; for amounts the kernel's
 //! page_counter_memparse and memparse).
 //!
 //! [`file_named`] and [`has_file`] say which file a name is and which groups have it,
-//! [`parse_amount`] reads what is written to a file, and [`show_text`] writes what a file says of
+//! [`parse_amount`] and [`parse_flag`] read what is written to a file, and [`show_text`] writes what a file says of
 //! numbers. None of them knows a state of the machine.
 #![tactic(auto)]
 
 pub use amounts::parse_amount;
 pub use files::{file_named, has_file};
+pub use flags::parse_flag;
 pub use texts::show_text;
 
 mod amounts;
 mod files;
+mod flags;
 mod texts;
 
 /// Bytes of a page.

@@ -7,7 +7,7 @@ ghost use Rattle.std.specs.String.{string_bytes};
 
 use crate::PAGE_BYTES;
 use machine::amount::Amount;
-use machine::record::{EventCounts, MemoryStat};
+use machine::record::{EventCounts, MemoryStat, OomGroup};
 use machine::reply::Shown;
 use std::alloc::{AllocError, Global};
 
@@ -55,7 +55,7 @@ fn stat_lines(alloc: Global, stat: MemoryStat) -> Result<String, AllocError>
     Ok(lines)
 }
 
-/// What a control file says of these numbers: pages in bytes, events by key, and pages by type. `AllocError`
+/// What a control file says of these numbers: pages in bytes, a flag, events by key, and pages by type. `AllocError`
 /// where memory is wanted and refused.
 pub fn show_text(alloc: Global, numbers: Shown) -> Result<String, AllocError>
     ensures { IfOk result (λ s. string_bytes s ≡ text_of numbers) }
@@ -63,6 +63,8 @@ pub fn show_text(alloc: Global, numbers: Shown) -> Result<String, AllocError>
     match numbers {
         Shown::Pages(pages) | Shown::Amount(Amount::Pages(pages)) => pages_line(alloc, pages),
         Shown::Amount(Amount::Max) => String::from_str(alloc, "max\n"),
+        Shown::Flag(OomGroup::Single) => String::from_str(alloc, "0\n"),
+        Shown::Flag(OomGroup::Whole) => String::from_str(alloc, "1\n"),
         Shown::Events(counts) => events_lines(alloc, counts),
         Shown::Stat(stat) => stat_lines(alloc, stat),
     }

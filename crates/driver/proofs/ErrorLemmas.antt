@@ -2,6 +2,7 @@
 use Rattle.std.proofs.Common.{◌≡◌, inl, inr, ℕ, zero, suc, ◌+◌, ◌≤◌, Bool, true, false, List, [], ◌∷◌, ◌++◌, Option, Some, None, refl, ap, ◌∙◌, subst, arith}
 use Rattle.std.specs.Prelude.{◌⊎◌, if◌then◌else◌, map, Result, Ok, Err}
 use Rattle.std.proofs.lemmas.List.Sums.{sum_by-append}
+use Rattle.machine.specs.declared.record.OomGroup.{OomGroup}
 use Rattle.machine.specs.declared.amount.Amount.{Amount}
 use Rattle.machine.specs.declared.amount.Amount.TheVariants as amount
 use Rattle.machine.specs.declared.config.Config.{Config}
@@ -22,7 +23,7 @@ use Rattle.machine.specs.declared.control.ControlFile.TheVariants as file
 use Rattle.machine.specs.declared.refusal.Refusal.TheVariants.{NoEntry, Stranger}
 use Rattle.machine.specs.Slots.{at}
 use Rattle.machine.specs.Tree.{Node, find_group}
-use Rattle.machine.specs.Control.{file_named, has_file, amount_of}
+use Rattle.machine.specs.Control.{file_named, has_file, amount_of, flag_of}
 use Rattle.machine.specs.State.{free_frames, opening_of}
 use Rattle.machine.specs.Call.{Past, Caller}
 use Rattle.block_store.specs.declared.device.Fault.{Fault}
@@ -30,6 +31,7 @@ use Rattle.block_store.specs.Device.{Disk, ReadsBlock, WritesBlock}
 use Rattle.pages.specs.Tickets.{TicketOf}
 use Rattle.book.specs.declared.event.Reply.{Reply}
 use Rattle.book.specs.declared.event.Reply.TheVariants as reply
+use Rattle.turns.specs.declared.turn.Kill.TheVariants as kill
 use Rattle.turns.specs.declared.turn.Access.{Access}
 use Rattle.turns.specs.declared.turn.Resume.{Resume}
 use Rattle.turns.specs.declared.turn.Resume.TheVariants as resume
@@ -45,7 +47,7 @@ use Rattle.driver.specs.declared.seat.Outcome.{Outcome}
 use Rattle.driver.specs.declared.seat.Outcome.TheVariants as outcome
 use Rattle.driver.specs.declared.seat.Activity.{Activity}
 use Rattle.driver.specs.declared.seat.Activity.TheVariants.{Rests, Begun, Does}
-use Rattle.turns.specs.Turns.{wants_pages, done, byte_answer, ends_refused, resumes_at, Tried, MadeRoom, MaxSet, Lowered, Reclaimed, Balanced, Made, TaskDid, WasShown, Closed, Told, ReadsIn, WritesOut, after_read, after_write, Judged, with_group, with_file, with_amount, reads_file, writes_file, reclaims, task_judged, shell_judged, daemon_judged, paths_of, judged}
+use Rattle.turns.specs.Turns.{wants_pages, done, byte_answer, ends_refused, resumes_at, Tried, MadeRoom, MaxSet, Lowered, Reclaimed, Balanced, Made, TaskDid, WasShown, Closed, Told, ReadsIn, WritesOut, after_read, after_write, Judged, with_group, with_file, with_amount, with_flag, reads_file, writes_file, reclaims, task_judged, shell_judged, daemon_judged, paths_of, judged}
 use Rattle.driver.specs.Schedule.{World, first_world, activity_of, with_activity, outcome_of, left_of, WantTurn, wants_at, StageTurn, JudgedTurn, ActivityTurn, said_at, all_said, Goings, EndsIn, RunsOut, Begins, Stepped, Runs, is_error, errors}
 use Rattle.driver.specs.Hands.{owes_at, owes, errors_owed}
 use Rattle.machine.proofs.SlotLemmas.{one_if}
@@ -102,6 +104,7 @@ room-cost access why reply.Dropped transition h = rw h refl
 room-cost access why (reply.Out ticket) transition h = rw h refl
 room-cost access why reply.Wait transition h = rw h refl
 room-cost access why (reply.KilledTask t) transition h = rw h refl
+room-cost access why (reply.KilledAll victim group tasks) transition h = rw h refl
 room-cost access why reply.NoVictim transition h = rw h refl
 room-cost access why (reply.Refused refused) transition h = rw h refl
 room-cost access why said transition h = absurd h
@@ -117,6 +120,7 @@ lowered-cost g reply.Dropped transition h = rw h refl
 lowered-cost g (reply.Out ticket) transition h = rw h refl
 lowered-cost g reply.Wait transition h = rw h refl
 lowered-cost g (reply.KilledTask t) transition h = rw h refl
+lowered-cost g (reply.KilledAll victim group tasks) transition h = rw h refl
 lowered-cost g reply.NoVictim transition h = rw h refl
 lowered-cost g (reply.Refused why) transition h = rw h refl
 lowered-cost g said transition h = absurd h
@@ -253,10 +257,15 @@ amount-owed : (found : Option Amount) (next : Amount → Judged) → ((a : Amoun
 amount-owed None next none = refl
 amount-owed (Some a) next none = none a
 
+flag-owed : (found : Option OomGroup) (next : OomGroup → Judged) → ((flag : OomGroup) → owed_judged (next flag) ≡ 0) → owed_judged (with_flag found next) ≡ 0
+flag-owed None next none = refl
+flag-owed (Some flag) next none = none flag
+
 reads-owed : (g : ℕ) (f : ControlFile) → owed_judged (reads_file g f) ≡ 0
 reads-owed g file.Current = refl
 reads-owed g file.Max = refl
 reads-owed g (file.Guard guard) = refl
+reads-owed g file.OomGroup = refl
 reads-owed g file.Events = refl
 reads-owed g file.EventsLocal = refl
 reads-owed g file.Stat = refl
@@ -273,6 +282,7 @@ writes-owed g text file.EventsLocal = refl
 writes-owed g text file.Stat = refl
 writes-owed g text file.Max = amount-owed (amount_of text) _ (λ a. refl)
 writes-owed g text (file.Guard guard) = amount-owed (amount_of text) _ (λ a. refl)
+writes-owed g text file.OomGroup = flag-owed (flag_of text) _ (λ flag. refl)
 writes-owed g text file.Reclaim = amount-owed (amount_of text) _ (reclaims-owed g)
 
 task-owed : (t : ℕ) (what : Command) → owed_judged (task_judged t what) ≡ 0
@@ -337,7 +347,8 @@ then-balance old mid new xs ys a b = let sum = errors-append xs ys in record { b
 
 said-cost : (who : Actor) (transition : Transition) → errors (said_at who (outcome_of transition)) + owed (left_of transition) ≡ cost transition
 said-cost who (Goes now) = omega arith
-said-cost who (Kills t on) = omega arith
+said-cost who (Kills (kill.One t) on) = omega arith
+said-cost who (Kills (kill.Group victim tasks) on) = omega arith
 said-cost who (Waits on) = refl
 said-cost who (Ends said) = alone (one_if (is_error said))
   where

@@ -4,6 +4,7 @@ use Rattle.std.specs.Int.{bit_at}
 use Rattle.std.proofs.lemmas.Nat.Bits.{bit_at-pow_other}
 use Rattle.std.proofs.lemmas.Bool.Decides.{eqb_tells}
 use Rattle.std.specs.Prelude.{Ok, Err, codes, if◌then◌else◌}
+use Rattle.machine.specs.declared.record.OomGroup.TheVariants.{Single}
 use Rattle.machine.specs.declared.amount.Amount.TheVariants as amount
 use Rattle.machine.specs.declared.event.Cause.TheVariants as cause
 use Rattle.machine.specs.declared.config.Watermarks.{Watermarks}
@@ -60,6 +61,7 @@ with_pages pages = record {
   opening = record { frames = 2; swap = 0; files = 1 ∷ []; watermarks = record { low = 0; high = 0 }; trace_limit = 8; recursive = false };
   tree = tree;
   limits = no_limits ∷ no_limits ∷ [];
+  flags = Single ∷ Single ∷ [];
   pages = pages;
   tasks = None ∷ Some (task_of 1 Live) ∷ [];
   page_tables = [] ∷ [] ∷ [];

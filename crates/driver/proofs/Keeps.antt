@@ -1,6 +1,7 @@
 -- What each actor is at once one of them is at something else; and what every turn keeps, every run keeps.
 use Rattle.std.proofs.Common.{◌≡◌, inl, inr, ℕ, zero, suc, ◌==◌, Bool, true, false, List, [], ◌∷◌, ◌++◌, Option, Some, None, eqb-true, eq-eqb, ne_eqb, refl, sym, ap, ◌∙◌, subst}
 use Rattle.std.specs.Prelude.{◌⊎◌, if◌then◌else◌, nat_le, map, Ok, Err, slice_get}
+use Rattle.machine.specs.declared.record.OomGroup.{OomGroup}
 use Rattle.machine.specs.declared.amount.Amount.{Amount}
 use Rattle.machine.specs.declared.amount.Amount.TheVariants as amount
 use Rattle.machine.specs.declared.config.Watermarks.{Watermarks}
@@ -21,10 +22,11 @@ use Rattle.machine.specs.Slots.{at}
 use Rattle.machine.specs.Tree.{Node, find_group}
 use Rattle.machine.specs.State.{free_frames}
 use Rattle.machine.specs.Call.{Past, leaves_entry}
-use Rattle.machine.specs.Control.{file_named, has_file, amount_of}
+use Rattle.machine.specs.Control.{file_named, has_file, amount_of, flag_of}
 use Rattle.book.specs.declared.event.Event.{Event}
 use Rattle.book.specs.declared.event.Event.TheVariants as event
 use Rattle.book.specs.Events.{event_of}
+use Rattle.turns.specs.declared.turn.Kill.TheVariants as kill
 use Rattle.turns.specs.declared.turn.Stage.{Stage}
 use Rattle.turns.specs.declared.turn.Stage.TheVariants as stage
 use Rattle.turns.specs.declared.turn.Pending.{Pending}
@@ -36,7 +38,7 @@ use Rattle.driver.specs.declared.seat.Outcome.TheVariants.{Goes, Kills, Ends}
 use Rattle.driver.specs.declared.seat.Activity.{Activity}
 use Rattle.driver.specs.declared.seat.Activity.TheVariants.{Rests, Begun, Does}
 use Rattle.driver.specs.declared.seat.Seat.{Seat}
-use Rattle.turns.specs.Turns.{access_event, wants, wants_pages, wants_balance, wants_watch, done, Judged, paths_of, judged, task_judged, shell_judged, daemon_judged, with_group, with_file, with_amount, reads_file, writes_file, reclaims, answer_by}
+use Rattle.turns.specs.Turns.{access_event, wants, wants_pages, wants_balance, wants_watch, done, Judged, paths_of, judged, task_judged, shell_judged, daemon_judged, with_group, with_file, with_amount, with_flag, reads_file, writes_file, reclaims, answer_by}
 use Rattle.driver.specs.Schedule.{number_of, is_of, activity_of, with_activity, World, wants_at, StageTurn, JudgedTurn, ActivityTurn, said_at, all_said, Goings, EndsIn, RunsOut, Begins, Stepped, Runs}
 use Rattle.legal.proofs.Effects.{ends}
 
@@ -188,7 +190,8 @@ fine-append (told ∷ xs) ys a b = (a.0, fine-append xs ys a.1 b)
 
 fine_said : (who : Actor) (outcome : Outcome) → FineOutcome outcome → AllFine (said_at who outcome)
 fine_said who Goes h = tt
-fine_said who (Kills t) h = (λ e. cc, tt)
+fine_said who (Kills (kill.One t)) h = (λ e. cc, tt)
+fine_said who (Kills (kill.Group victim tasks)) h = (λ e. cc, tt)
 fine_said who (Ends said) h = (h, tt)
 
 pub fine_at : (answers : List Told_by) (k : ℕ) (told : Told_by) → AllFine answers → slice_get answers k ≡ Some told → Fine told.answer
@@ -225,10 +228,15 @@ judged-plain tree who what = by_actor who
     by_amount None next h = λ e. cc
     by_amount (Some amount) next h = h amount
 
+    by_flag : (found : Option OomGroup) (next : OomGroup → Judged) → ((flag : OomGroup) → Plain (next flag)) → Plain (with_flag found next)
+    by_flag None next h = λ e. cc
+    by_flag (Some flag) next h = h flag
+
     reads : (g : ℕ) (f : ControlFile) → Plain (reads_file g f)
     reads g file.Current = refl
     reads g file.Max = refl
     reads g (file.Guard guard) = refl
+    reads g file.OomGroup = refl
     reads g file.Events = refl
     reads g file.EventsLocal = refl
     reads g file.Stat = refl
@@ -245,6 +253,7 @@ judged-plain tree who what = by_actor who
     writes g text file.Stat = λ e. cc
     writes g text file.Max = by_amount (amount_of text) _ (λ amount. refl)
     writes g text (file.Guard guard) = by_amount (amount_of text) _ (λ amount. refl)
+    writes g text file.OomGroup = by_flag (flag_of text) _ (λ flag. refl)
     writes g text file.Reclaim = by_amount (amount_of text) _ (reclaimed g)
 
     by_shell : (what : Command) (found : List (Option ℕ)) → Plain (shell_judged what found)

@@ -1,6 +1,7 @@
 -- Examples of groups that are removed: one whose task has gone, whose pages are its parent's then; and what removals are refused.
 use Rattle.std.proofs.Common.{◌≡◌, ℕ, zero, suc, true, false, List, [], ◌∷◌, Some, None, refl}
 use Rattle.std.specs.Prelude.{codes, Ok, Err, option_map}
+use Rattle.machine.specs.declared.record.OomGroup.TheVariants.{Single}
 use Rattle.machine.specs.declared.command.Actor.TheVariants as actor
 use Rattle.machine.specs.declared.command.Command.{Command}
 use Rattle.machine.specs.declared.command.Command.TheVariants as command
@@ -48,6 +49,7 @@ with_groups groups h g = record {
   opening = record { frames = 2; swap = 1; files = []; watermarks = record { low = 0; high = 0 }; trace_limit = 8; recursive = false };
   tree = groups;
   limits = no_limits ∷ no_limits ∷ [];
+  flags = Single ∷ Single ∷ [];
   pages = Some (in_frame g) ∷ Some (on_block g) ∷ [];
   tasks = None ∷ Some (task_of h Live) ∷ [];
   page_tables = tables;

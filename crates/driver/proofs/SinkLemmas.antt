@@ -10,6 +10,7 @@ use Rattle.machine.specs.declared.command.Answer.TheVariants.{Word}
 use Rattle.machine.specs.declared.command.Word.TheVariants.{TurnLimit, Underway, Idle}
 use Rattle.machine.specs.declared.command.Word.{Word as Word_of}
 use Rattle.machine.specs.declared.command.Command.{Command}
+use Rattle.turns.specs.declared.turn.Kill.TheVariants as kill
 use Rattle.driver.specs.declared.seat.Activity.{Activity}
 use Rattle.driver.specs.declared.seat.Activity.TheVariants.{Rests, Begun, Does}
 use Rattle.schedules.specs.declared.schedule.Entry.TheVariants.{Whole}
@@ -214,7 +215,8 @@ begins_more most (step ∷ left) more part begins = begins
 -- a turn says one answer at most
 pub said-few : (who : Actor) (outcome : Outcome) → length (said_at who outcome) ≤ 1
 said-few who Goes = omega arith
-said-few who (Kills t) = omega arith
+said-few who (Kills (kill.One t)) = omega arith
+said-few who (Kills (kill.Group victim tasks)) = omega arith
 said-few who (Ends said) = omega arith
 
 -- a sink that took some answers took some more

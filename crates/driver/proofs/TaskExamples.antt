@@ -1,6 +1,7 @@
 -- Examples of what tasks are told: one forks, the child is moved, and the parent frees the page that both show; and who may not be told so.
 use Rattle.std.proofs.Common.{◌≡◌, ◌≢◌, ℕ, zero, suc, ◌==◌, ◌&&◌, true, false, List, [], ◌∷◌, Some, None, refl}
 use Rattle.std.specs.Prelude.{codes, Ok, Err}
+use Rattle.machine.specs.declared.record.OomGroup.TheVariants.{Single}
 use Rattle.machine.specs.declared.command.Actor.{Actor}
 use Rattle.machine.specs.declared.command.Actor.TheVariants as actor
 use Rattle.machine.specs.declared.command.Command.TheVariants as command
@@ -55,6 +56,7 @@ with_tasks tasks tables = record {
   opening = record { frames = 2; swap = 1; files = []; watermarks = record { low = 0; high = 0 }; trace_limit = 8; recursive = false };
   tree = tree;
   limits = no_limits ∷ no_limits ∷ [];
+  flags = Single ∷ Single ∷ [];
   pages = Some away ∷ [];
   tasks = tasks;
   page_tables = tables;

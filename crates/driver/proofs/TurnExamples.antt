@@ -1,6 +1,7 @@
 -- An example of a finish: a max is set in one turn, and in the next one nothing has to leave.
 use Rattle.std.proofs.Common.{◌≡◌, ℕ, zero, suc, inl, true, false, [], ◌∷◌, ◌++◌, Some, None, refl, arith}
 use Rattle.std.specs.Prelude.{codes}
+use Rattle.machine.specs.declared.record.OomGroup.TheVariants.{Single}
 use Rattle.machine.specs.declared.amount.Amount.TheVariants as amount
 use Rattle.machine.specs.declared.command.Actor.TheVariants as actor
 use Rattle.machine.specs.declared.command.Command.{Command}
@@ -39,6 +40,7 @@ empty = record {
   opening = record { frames = 2; swap = 0; files = []; watermarks = record { low = 0; high = 0 }; trace_limit = 8; recursive = false };
   tree = root ∷ record { parent = Some 0; path = codes "/r"; live = true } ∷ [];
   limits = no_limits ∷ no_limits ∷ [];
+  flags = Single ∷ Single ∷ [];
   pages = [];
   tasks = [];
   page_tables = [];

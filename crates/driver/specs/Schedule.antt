@@ -34,7 +34,7 @@ use Rattle.machine.specs.Pages.{home_block}
 use Rattle.machine.specs.State.{sizes_of, opening_of, blocks_of, is_config, free_frames}
 use Rattle.machine.specs.History.{at_first, Honest, Right}
 use Rattle.machine.specs.Call.{Past, first_past, Caller, Called}
-use Rattle.turns.specs.Turns.{wants, Told, resumes_at, ReadsIn, WritesOut, Judged, judged, ends_refused, answer_by}
+use Rattle.turns.specs.Turns.{wants, Told, resumes_at, kill_answer, ReadsIn, WritesOut, Judged, judged, ends_refused, answer_by}
 
 -- ---- what the actors are at
 
@@ -156,7 +156,7 @@ Turn old who outcome new = ActivityTurn old who (activity_of who old.seats) outc
 -- what a turn prints; a kill is printed at the moment it is made. (Excludes kills that are printed late or left out.)
 abbrev pub said_at : Actor → Outcome → List Told_by
 said_at who Goes = []
-said_at who (Kills t) = answer_by who (answer.Kill t)
+said_at who (Kills kill) = answer_by who (kill_answer kill)
 said_at who (Ends said) = answer_by who said
 
 abbrev pub all_said : Actor → List Outcome → List Told_by

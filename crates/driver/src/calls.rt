@@ -123,6 +123,7 @@ fn give_up_stage(book: &mut Book, pass: &mut Pass, stage: Stage)
             guard: _,
             amount: _,
         } => {}
+        Stage::SetOomGroup { group: _, flag: _ } => {}
         Stage::Reclaim { group: _, left: _ } | Stage::Watch | Stage::Balance => {}
         Stage::Spawn { task: _, group: _ } | Stage::Fork { task: _, child: _ } => {}
         Stage::Exit(_) | Stage::Free { task: _, page: _ } => {}

@@ -1,14 +1,13 @@
 //! What an actor is at, and what a turn of it shows.
 
 use machine::command::{Actor, Answer, Command};
-use machine::id::TaskId;
-use turns::turn::Stage;
+use turns::turn::{Kill, Stage};
 
 /// What a turn shows.
 #[derive(Debug, Drop)]
 pub enum Outcome {
     Goes,
-    Kills(TaskId),
+    Kills(Kill),
     Ends(Answer),
 }
 

@@ -193,9 +193,9 @@ pub fn settle(transition: Transition) -> (Outcome, Activity)
 {
     match transition {
         Transition::Goes(stage) => (Outcome::Goes, Activity::Does(stage)),
-        Transition::Kills(task, resume) => {
+        Transition::Kills(kill, resume) => {
             (
-                Outcome::Kills(task),
+                Outcome::Kills(kill),
                 Activity::Does(automaton::resumes_at(resume)),
             )
         }
@@ -222,7 +222,7 @@ pub fn say<S: Sink>(sink: &mut S, at: usize, actor: Actor, outcome: Outcome) -> 
 {
     match outcome {
         Outcome::Goes => Ok(()),
-        Outcome::Kills(task) => answer(sink, at, actor, Answer::Kill(task)),
+        Outcome::Kills(kill) => answer(sink, at, actor, kill.answer()),
         Outcome::Ends(said) => answer(sink, at, actor, said),
     }
 }

@@ -6,7 +6,7 @@ use Rattle.machine.specs.declared.command.Actor.{Actor}
 use Rattle.machine.specs.declared.command.Actor.TheVariants as actor
 use Rattle.machine.specs.declared.command.Command.{Command}
 use Rattle.machine.specs.declared.command.Command.TheVariants as command
-use Rattle.machine.specs.Control.{amount_of, file_named, has_file}
+use Rattle.machine.specs.Control.{amount_of, flag_of, file_named, has_file}
 use Rattle.explain.specs.declared.reason.Reason.{Reason}
 use Rattle.explain.specs.declared.reason.Reason.TheVariants as reason
 
@@ -77,6 +77,7 @@ IsSo who what (reason.NotModelled file) = (file_in what ≡ Some file.now) × (f
 IsSo who what (reason.RootLacks file) = (file_in what ≡ Some file.now) × IfSome (file_named file.now) (λ named. has_file 0 named ≡ false)
 IsSo who what (reason.NotWritten file) = file_in what ≡ Some file.now
 IsSo who what (reason.NotRead file) = file_in what ≡ Some file.now
+IsSo who what (reason.NoFlag text) = (text_in what ≡ Some text.now) × (flag_of text.now ≡ None)
 IsSo who what (reason.NoAmount text) = (text_in what ≡ Some text.now) × (amount_of text.now ≡ None)
 IsSo who what (reason.AmountTooLarge text) = (text_in what ≡ Some text.now) × (amount_of text.now ≡ None)
 IsSo who what (reason.NoTaskNumber number) = ((number_in what ≡ Some number) ⊎ (who ≡ actor.Task number)) × (is_task_number number ≡ false)

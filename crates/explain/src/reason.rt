@@ -99,6 +99,8 @@ pub enum Reason<'a> {
     NoAmount(&'a str),
     /// The text is more bytes than an amount can be.
     AmountTooLarge(&'a str),
+    /// The text is no flag.
+    NoFlag(&'a str),
     /// `max` is written to `memory.reclaim`.
     MaxReclaimed,
     /// The control file of this name is read alone.
@@ -216,6 +218,7 @@ impl fmt::Display for Reason<'_> {
                 "{text} is no amount: it is more than {} bytes",
                 u64::MAX
             ),
+            Reason::NoFlag(text) => write!(f, "{text:?} is no flag: 0, or 1"),
             Reason::MaxReclaimed => f.write_str("max is no amount for memory.reclaim"),
             Reason::NotWritten(file) => write!(f, "{file} can't be written"),
             Reason::NotRead(file) => write!(f, "{file} can't be read"),

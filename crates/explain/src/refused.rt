@@ -4,7 +4,7 @@ ghost use Rattle.std.specs.Prelude.{◌≡◌, Some, IfSome};
 ghost use Rattle.explain.specs.Reasons.{IsSo, is_task_number, path_in, file_in, text_in, number_in};
 
 use crate::reason::Reason;
-use control_files::{file_named, has_file, parse_amount};
+use control_files::{file_named, has_file, parse_amount, parse_flag};
 use machine::amount::Amount;
 use machine::bytes::PAGE_BYTES;
 use machine::command::{Actor, Command, Word};
@@ -333,6 +333,7 @@ fn not_set<'a>(told: Told<'a>, file: &'a str, text: &'a str) -> Option<Reason<'a
 {
     match file_named(file) {
         Some(ControlFile::Max | ControlFile::Guard(_) | ControlFile::Reclaim) => {}
+        Some(ControlFile::OomGroup) => return no_flag(told, text),
         _ => return Some(Reason::NotWritten(file)),
     }
     match parse_amount(text) {
@@ -340,6 +341,17 @@ fn not_set<'a>(told: Told<'a>, file: &'a str, text: &'a str) -> Option<Reason<'a
         Some(Amount::Pages(_)) => None,
         None if is_written_out(text) => Some(Reason::AmountTooLarge(text)),
         None => Some(Reason::NoAmount(text)),
+    }
+}
+
+/// A flag is written by one of two texts.
+fn no_flag<'a>(told: Told<'a>, text: &'a str) -> Option<Reason<'a>>
+    requires { text_in told.command.now ≡ Some text.now }
+    ensures { IfSome result (IsSo told.entry.actor told.entry.command.now) }
+{
+    match parse_flag(text) {
+        Some(_) => None,
+        None => Some(Reason::NoFlag(text)),
     }
 }
 

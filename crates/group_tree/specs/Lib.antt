@@ -4,3 +4,4 @@ pub mod Places
 pub mod Walk
 pub mod Lineages
 pub mod Kin
+pub mod Flags

@@ -31,7 +31,7 @@ use Rattle.machine.specs.Step.{Only, Takes, LeavesFrom, LeavesBy, ChargeStep, Ma
 use Rattle.machine.proofs.Values.{unlike}
 use Rattle.machine.proofs.SlotLemmas.{one_if, count_there-changes}
 use Rattle.legal.proofs.MoveLemmas.{hits_held}
-use Rattle.laws.specs.Laws.{TransfersStayCharged, CurrentCountsPages, StatAddsUpToCurrent, EventsAreThoseCounted, ChargesStayWithinMax, KillsComeLast, ReadsGiveLastWrites}
+use Rattle.laws.specs.Laws.{TransfersStayCharged, CurrentCountsPages, StatAddsUpToCurrent, EventsAreThoseCounted, ChargesStayWithinMax, ReadsGiveLastWrites}
 
 -- ---- memory.current
 
@@ -121,12 +121,6 @@ pub idle_of : (a b : Bool) (P Q R S : Type 0) → (P → ⊥) → (Q → ⊥) �
 idle_of true b P Q R S f g k h = absurd (f h)
 idle_of false true P Q R S f g k h = absurd (g h)
 idle_of false false P Q R S f g k h = (refl, k h)
-
-pub kills_come_last : KillsComeLast
-kills_come_last before after why t step =
-    by_test (stands before why)
-    (λ s. idle_of (has_takeable before (target_of why)) (has_transfer before (target_of why)) _ _ _ _ (never_taken before (target_of why) (reply.KilledTask (record { 0 = t })) after refl) (λ w. let e = w.0 in cc) (λ kill. kill.0.among) s)
-    (λ r. let e = r.0 in cc) step
 
 -- ---- charges
 

@@ -9,3 +9,4 @@ pub mod ShareLemmas
 pub mod TurnLemmas
 pub mod ProtectionLemmas
 pub mod LowLemmas
+mod KillLemmas

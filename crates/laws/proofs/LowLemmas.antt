@@ -1,8 +1,11 @@
 -- What memory.low does: whose pages are taken last, what is counted then, and that nobody is killed for it. And with it what a history counts at all.
 use Rattle.std.proofs.Common.{◌≡◌, ◌≢◌, inl, inr, ℕ, ◌==◌, ◌&&◌, ◌||◌, not, Bool, true, false, cond, List, [], ◌∷◌, ◌++◌, Option, Some, None, eqb-true, refl, sym, ap, ◌∙◌, subst, arith}
-use Rattle.std.specs.Prelude.{◌⊎◌, sum_by}
+use Rattle.std.specs.Prelude.{◌⊎◌, sum_by, filter, map}
 use Rattle.std.proofs.lemmas.List.Sums.{sum_by-cons}
 use Rattle.std.proofs.lemmas.Bool.{cases_Bool, and_parts, and_from, ne_eqb}
+use Rattle.machine.specs.declared.record.Task.{Task}
+use Rattle.machine.specs.Victim.{is_live_under, counts_of_group_kill}
+use Rattle.machine.specs.Tasks.{Tasks, group_of}
 use Rattle.machine.specs.declared.amount.Amount.{Amount}
 use Rattle.machine.specs.declared.entry.Entry.{Entry}
 use Rattle.machine.specs.declared.record.EventCounts.{EventCounts}
@@ -16,13 +19,13 @@ use Rattle.machine.specs.declared.record.Limits.{Limits}
 use Rattle.machine.specs.Slots.{Changes, there_and, any_there}
 use Rattle.machine.specs.Amounts.{exceeds, at_most}
 use Rattle.machine.specs.Tree.{Node, children, chain_below, under}
-use Rattle.machine.specs.Counts.{Counted, limits_at, with_event, local}
+use Rattle.machine.specs.Counts.{Counted, limits_at, with_event, local, with_events, is_key, count_of}
 use Rattle.machine.specs.Pages.{Content, Memory, OfFile, Residence, Held, Coming, Going, Away, Page, Pages, page_at, is_anon, is_held}
 use Rattle.machine.specs.Protection.{min_usage, setting_of, effective_along}
 use Rattle.machine.specs.State.{Opening, State, usage, effective_low, is_swap_free}
 use Rattle.machine.specs.Reclaim.{is_takeable, is_above_low, is_open, has_open, is_next, counted_at_take, has_transfer, target_of}
 use Rattle.machine.specs.Step.{Takes, LeavesBy, LeavesFrom, Step}
-use Rattle.machine.specs.Events.{took_for, counts_named, low_named, NamesFor, Names, AreCounted, with_events, for_groups}
+use Rattle.machine.specs.Events.{took_for, counts_named, low_named, NamesFor, Names, AreCounted, for_groups}
 use Rattle.machine.proofs.Values.{some_inj}
 use Rattle.machine.proofs.TreeLemmas.{eq_cases}
 use Rattle.machine.proofs.TestLemmas.{none_has}
@@ -32,7 +35,8 @@ use Rattle.protection.proofs.EffectiveLemmas.{same_below}
 use Rattle.legal.proofs.CountedLemmas.{Counts, step-counted, local-other}
 use Rattle.legal.proofs.NamedLemmas.{Tells, nothing-told, step-told, legal-counted, counted-legal}
 use Rattle.laws.specs.Laws.{CountsAreOfTheHistory, IsWithinLow, IsTaken, LowsComeLast, LowsAreCounted, LowsKillNobody}
-use Rattle.laws.proofs.LawLemmas.{by_test, kills_come_last}
+use Rattle.laws.proofs.LawLemmas.{by_test}
+use Rattle.laws.proofs.KillLemmas.{kills_come_last}
 use Rattle.laws.proofs.ReclaimLemmas.{step_takes}
 
 -- ---- the page that is taken
@@ -119,10 +123,28 @@ lows_come_last before after what answer target p page took step taken within q o
 
 -- ---- what is counted
 
+-- none of the events is a `low`
+abbrev AreNotLow : List Counted → Type 0
+AreNotLow [] = Unit {0}
+AreNotLow (c ∷ events) = (is_key c.key key.Low ≡ false) × AreNotLow events
+
+no_low-events : (counted : List EventCounts) (events : List Counted) (g : ℕ) → AreNotLow events → local (with_events counted events) g key.Low ≡ local counted g key.Low
+no_low-events counted [] g none = refl
+no_low-events counted (c ∷ events) g none = no_low-events (with_event counted c.group c.key) events g none.1 ∙ local-other counted c.group c.key g key.Low none.0
+
+-- so it is of a group's kill
+all_but_low : (tree : List Node) (tasks : Tasks) (limit h : ℕ) → AreNotLow (counts_of_group_kill tree tasks limit h)
+all_but_low tree tasks limit h = (refl, killed (filter (there_and (is_live_under tree h)) tasks))
+  where
+    killed : (slots : List (Option Task)) → AreNotLow (map (λ (s : Option Task). count_of (group_of s) key.OomKill) slots ++ count_of h key.OomGroupKill ∷ [])
+    killed [] = (refl, tt)
+    killed (slot ∷ slots) = (refl, killed slots)
+
 -- of the keys that no page is counted under
 no_low : (s : State) (what : Event) (answer : Reply) (g : ℕ) → local (with_events (for_groups s.counted what) (counts_named s what answer)) g key.Low ≡ local s.counted g key.Low
 no_low s (event.Access t place op) (reply.Over limit) g = local-other s.counted limit.0 key.Max g key.Low refl
 no_low s (event.Relieve why) (reply.KilledTask t) g = local-other (with_event s.counted (target_of why) key.Oom) _ key.OomKill g key.Low refl ∙ local-other s.counted (target_of why) key.Oom g key.Low refl
+no_low s (event.Relieve why) (reply.KilledAll victim h tasks) g = no_low-events s.counted (counts_of_group_kill s.tree s.tasks (target_of why) h.0) g (all_but_low s.tree s.tasks (target_of why) h.0)
 no_low s (event.Relieve why) reply.NoVictim g = local-other s.counted (target_of why) key.Oom g key.Low refl
 no_low s (event.Mkdir path) answer g = local-push s.counted g key.Low
 no_low s what answer g = refl
@@ -184,8 +206,8 @@ module _ (s : State) (others : List Limits) (same : (g : ℕ) → (limits_at oth
       ap (λ b. b || any_there (is_takeable (record s { limits = others }) target) pages) (takeable-same page) ∙ ap (λ b. is_takeable s target page || b) (any-same pages)
 
 pub lows_kill_nobody : LowsKillNobody
-lows_kill_nobody before after why t others step same =
-    ap (λ b. not b && not (has_transfer before (target_of why))) (any-same before others same (target_of why) before.pages) ∙ (kills_come_last before after why t step).0
+lows_kill_nobody before after why answer victim others names step same =
+    ap (λ b. not b && not (has_transfer before (target_of why))) (any-same before others same (target_of why) before.pages) ∙ (kills_come_last before after why answer victim names step).0
 
 -- ---- the events of a history
 

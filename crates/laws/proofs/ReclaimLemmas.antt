@@ -1,7 +1,7 @@
 -- Whose pages a reclaim takes, and what it does where it takes none.
 use Rattle.std.proofs.Common.{◌≡◌, inl, inr, ℕ, ◌==◌, ◌||◌, Bool, true, false, Option, Some, None, eqb-true, refl, sym, ap, ◌∙◌, subst}
 use Rattle.std.specs.Prelude.{◌⊎◌, MatchBool}
-use Rattle.std.proofs.lemmas.Bool.{and_parts}
+use Rattle.std.proofs.lemmas.Bool.{and_parts, cases_Bool}
 use Rattle.machine.specs.declared.record.Life.{Life}
 use Rattle.machine.specs.declared.record.Life.TheVariants.{Live, Exited, Killed}
 use Rattle.machine.specs.declared.record.Task.{Task}
@@ -25,7 +25,7 @@ use Rattle.machine.proofs.Values.{some_inj, never_some, unlike}
 use Rattle.machine.proofs.TreeLemmas.{eq_cases}
 use Rattle.machine.specs.Events.{took_for}
 use Rattle.machine.proofs.TakeableLemmas.{next-takeable, takeable-held, takeable-below, takeable-unprotected}
-use Rattle.laws.specs.Laws.{TakesUnprotected, ReclaimsSpareTheProtected, ReclaimsGiveUpLast, ReclaimsKillNobody, OnlyCleanPagesAreDropped}
+use Rattle.laws.specs.Laws.{victim_in, TakesUnprotected, ReclaimsSpareTheProtected, ReclaimsGiveUpLast, ReclaimsKillNobody, OnlyCleanPagesAreDropped}
 use Rattle.laws.proofs.LawLemmas.{by_test, is_taking, never_taken, idle_of}
 
 -- ---- where the answer is that a page was taken, one was
@@ -36,6 +36,7 @@ module _ (before after : State) (answer : Reply) (taking : is_taking answer ≡ 
 
   no_kill : {P : Type 0} (limit : ℕ) (said : Reply) → is_taking said ≡ true → KillStep before limit said after → P
   no_kill limit (reply.KilledTask t) takes h = cc
+  no_kill limit (reply.KilledAll victim h_group tasks) takes h = cc
   no_kill limit reply.NoVictim takes h = cc
   no_kill limit said takes h = absurd h
 
@@ -187,18 +188,16 @@ pub reclaims_kill_nobody : ReclaimsKillNobody
 reclaims_kill_nobody before after g answer step =
     by_test (has_takeable before g.0) (λ k. (never_kills k, tasks k)) (λ k. by_test (has_transfer before g.0) (λ w. only reply.Wait w refl) (λ n. only reply.Nothing n refl) k) step
   where
-    not_killed : (t : ℕ) → is_taking answer ≡ true → answer ≡ reply.KilledTask (record { 0 = t }) → ⊥
-    not_killed t taking e = unlike (is_taking answer) taking (ap is_taking e)
+    takes_none : (said : Reply) → is_taking said ≡ true → victim_in said ≡ None
+    takes_none (reply.KilledTask t) takes = cc
+    takes_none (reply.KilledAll victim h tasks) takes = cc
+    takes_none other takes = refl
 
-    never_kills : Takes before g.0 answer after → (t : ℕ) → answer ≡ reply.KilledTask (record { 0 = t }) → ⊥
-    never_kills h t e = never_taken before g.0 answer after (ap is_taking e) h
+    never_kills : Takes before g.0 answer after → victim_in answer ≡ None
+    never_kills h = elim (cases_Bool (is_taking answer)) [ inl takes ↦ takes_none answer takes | inr other ↦ absurd (never_taken before g.0 answer after other h) ]
 
-    is_killed : Reply → Bool
-    is_killed (reply.KilledTask t) = true
-    is_killed said = false
-
-    only : (expected : Reply) → Only before expected answer after → is_killed expected ≡ false → ((t : ℕ) → answer ≡ reply.KilledTask (record { 0 = t }) → ⊥) × (after.tasks ≡ before.tasks)
-    only expected h other = (λ t e. unlike (is_killed answer) (ap is_killed e) (ap is_killed h.0 ∙ other), ap (λ (s : State). s.tasks) h.1)
+    only : (expected : Reply) → Only before expected answer after → victim_in expected ≡ None → (victim_in answer ≡ None) × (after.tasks ≡ before.tasks)
+    only expected h none = (ap victim_in h.0 ∙ none, ap (λ (s : State). s.tasks) h.1)
 
     tasks : Takes before g.0 answer after → after.tasks ≡ before.tasks
     tasks h = by_residence h.page.residence h.leaves

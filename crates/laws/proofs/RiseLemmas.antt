@@ -3,6 +3,7 @@ use Rattle.std.proofs.Common.{◌≡◌, inl, inr, ℕ, ◌+◌, ◌<◌, ◌≤
 use Rattle.std.specs.Prelude.{IfSome}
 use Rattle.std.proofs.lemmas.Bool.{cases_lt, and_parts}
 use Rattle.std.proofs.Math.ListN.{get_or-eq_default}
+use Rattle.machine.specs.declared.record.OomGroup.{OomGroup}
 use Rattle.machine.specs.declared.record.Limits.{Limits}
 use Rattle.machine.specs.declared.record.EventCounts.{EventCounts}
 use Rattle.machine.specs.declared.event.Event.{Event}
@@ -69,9 +70,9 @@ module _ (before after : State) (a : ℕ) where
       let stood : one_if (there_and (is_charged before.tree a) (at before.pages p)) ≡ one_if (there_and (is_charged before.tree a) slot) = ap (λ (x : Option Page). one_if (there_and (is_charged before.tree a) x)) there in
       omega (arith, same, both, stood)
 
-  made_less : (x : Node) (ls : List Limits) (counted : List EventCounts) → IsTree before.tree → ((p : ℕ) → IfSome (page_at before.pages p) (λ page. is_live before.tree page.group ≡ true)) → after ≡ record before { tree = before.tree ++ x ∷ []; limits = ls; counted = counted } → Less
+  made_less : (x : Node) (ls : List Limits) (fs : List OomGroup) (counted : List EventCounts) → IsTree before.tree → ((p : ℕ) → IfSome (page_at before.pages p) (λ page. is_live before.tree page.group ≡ true)) → after ≡ record before { tree = before.tree ++ x ∷ []; limits = ls; flags = fs; counted = counted } → Less
   unfolding Less
-  made_less x ls counted falls groups e =
+  made_less x ls fs counted falls groups e =
       let same : usage after a ≡ charged (before.tree ++ x ∷ []) before.pages a = ap (λ (s : State). usage s a) e in
       let le = tests-less (is_charged before.tree a) (is_charged (before.tree ++ x ∷ []) a) before.pages before.pages (λ n. grown_slot before.tree x a falls (page_at before.pages n) (groups n)) in
       omega (arith, same, le)
@@ -95,7 +96,7 @@ module _ (before after : State) (a : ℕ) where
 
   did_less : (what : Event) (answer : Reply) → is_access what ≡ false → IsTree before.tree → ((p : ℕ) → IfSome (page_at before.pages p) (λ page. is_live before.tree page.group ≡ true)) → Did before what answer after → Less
   unfolding Less
-  did_less what answer other falls groups (Kept limits counted e) = let same : usage after a ≡ usage before a = ap (λ (s : State). usage s a) e in omega (arith, same)
+  did_less what answer other falls groups (Kept limits flags counted e) = let same : usage after a ≡ usage before a = ap (λ (s : State). usage s a) e in omega (arith, same)
   did_less what answer other falls groups (Made t v p frame access out alive shared within free unused placed shown e) = unlike (is_access what) access other
   did_less what answer other falls groups (Moved p page dirty now counted there placed moves mapped e) =
       let one = one_changes p (Some page) _ (ap (λ (s : State). s.tree) e) there placed in
@@ -110,7 +111,7 @@ module _ (before after : State) (a : ℕ) where
   did_less what answer other falls groups (Freed t v is out alive frees) = stilled_less (ap (λ (s : State). s.tree) frees.state) frees.pages
   did_less what answer other falls groups (Attached t g is out sets e) = let same : usage after a ≡ usage before a = ap (λ (s : State). usage s a) e in omega (arith, same)
   did_less what answer other falls groups (Removed g is out removes) = usage-no_more before after g.0 removes falls a
-  did_less what answer other falls groups (Grown path is out e) = made_less _ _ _ falls groups e
+  did_less what answer other falls groups (Grown path is out e) = made_less _ _ _ _ falls groups e
 
   -- a page has a frame when it begins to be written out, and had one before
   framed_still : (what : Event) (answer : Reply) (page : Page) (dirty : Bool) (now : Residence) → is_out answer ≡ true → Moves before what answer page dirty now → frame_at now ≡ frame_at page.residence
@@ -122,7 +123,7 @@ module _ (before after : State) (a : ℕ) where
 
   did_keep : (what : Event) (answer : Reply) → is_out answer ≡ true → Did before what answer after → Kept_so
   unfolding Kept_so
-  did_keep what answer out (Kept limits counted e) = ap (λ (s : State). usage s a) e
+  did_keep what answer out (Kept limits flags counted e) = ap (λ (s : State). usage s a) e
   did_keep what answer out (Made t v p frame access other alive shared within free unused placed shown e) = unlike (is_out answer) out other
   did_keep what answer out (Moved p page dirty now counted there placed moves mapped e) =
       let one = one_changes p (Some page) _ (ap (λ (s : State). s.tree) e) there placed in

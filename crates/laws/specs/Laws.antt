@@ -1,5 +1,5 @@
 -- The headline in the words of its users: what holds of every step and of every run.
-use Rattle.std.specs.Prelude.{◌≡◌, ◌≢◌, ◌⊎◌, ℕ, ◌+◌, ◌<◌, ◌≤◌, Bool, true, false, List, ◌∷◌, ◌++◌, length, sum_by, Option, Some, None, slice_get, slice_set}
+use Rattle.std.specs.Prelude.{◌≡◌, ◌≢◌, ◌⊎◌, ℕ, ◌+◌, ◌<◌, ◌≤◌, ◌==◌, ◌&&◌, if◌then◌else◌, Bool, true, false, List, ◌∷◌, ◌++◌, length, sum_by, Option, Some, None, slice_get, slice_set}
 use Rattle.std.specs.List.{AllByRecursion}
 use Rattle.machine.specs.declared.amount.Amount.TheVariants.{Pages}
 use Rattle.machine.specs.declared.config.Config.{Config}
@@ -18,6 +18,7 @@ use Rattle.machine.specs.declared.record.MemoryStat.{MemoryStat}
 use Rattle.machine.specs.declared.record.Kind.{Kind}
 use Rattle.machine.specs.declared.record.Key.{Key}
 use Rattle.machine.specs.declared.record.Key.TheVariants as key
+use Rattle.machine.specs.declared.record.Life.TheVariants.{Killed}
 use Rattle.machine.specs.declared.record.Guard.{Guard}
 use Rattle.machine.specs.declared.record.Limits.{Limits}
 use Rattle.machine.specs.declared.reply.Reply.{Reply}
@@ -30,15 +31,15 @@ use Rattle.machine.specs.Slots.{there_and, count_there}
 use Rattle.machine.specs.Amounts.{exceeds}
 use Rattle.machine.specs.Counts.{limits_at, count_of_key, with_event, local, total, Counted, how_often}
 use Rattle.machine.specs.Tree.{Node, node_at, is_child, is_live, children, under}
-use Rattle.machine.specs.Pages.{OfFile, Residence, Away, Page, page_at, is_anon, is_held, frame_at, block_at, ticket_at, is_in_transfer, is_charged, in_transfer, used_frames, used_swap, IsFiled}
-use Rattle.machine.specs.Tasks.{lives, group_of_task, mapped_at, size_of}
+use Rattle.machine.specs.Pages.{OfFile, Residence, Away, Page, page_at, is_anon, is_held, frame_at, block_at, ticket_at, is_in_transfer, is_charged, is_number, in_transfer, used_frames, used_swap, IsFiled}
+use Rattle.machine.specs.Tasks.{task_at, task_of, lives, group_of_task, mapped_at, size_of}
 use Rattle.machine.specs.State.{Opening, State, page_numbers, usage, effective_in, effective_min, effective_low, is_swap_free, opening_of, blocks_of}
 use Rattle.machine.specs.Reclaim.{is_takeable, is_idle, target_of}
 use Rattle.machine.specs.Generations.{row_of, listed, gens_at, AreDistinct}
 use Rattle.machine.specs.Aging.{is_marked, has_mark}
 use Rattle.machine.specs.Eviction.{old_pages}
 use Rattle.machine.specs.Lists.{HeldLists, Youngest, served, PicksOf, ListsHeld, AreGenerations, generation_for, GoesOn, shown_at, is_in_bits, MergesMarks, with_group, RemovesLists}
-use Rattle.machine.specs.Victim.{is_candidate}
+use Rattle.machine.specs.Victim.{is_live_under, is_candidate, is_flagged}
 use Rattle.machine.specs.Step.{Step}
 use Rattle.machine.specs.Call.{Past, Caller, Called, AreAlike}
 use Rattle.machine.specs.Legal.{Legal}
@@ -157,20 +158,75 @@ OnlyAccessesCharge =
     (opening : Opening) (history : List Entry) (before after : State) (what : Event) (answer : Reply) (a : ℕ) → Legal opening history before → Step before what answer after
     → usage before a < usage after a → IsAccess what
 
--- a task is killed only where nothing could be reclaimed under the limit group, and only a live one of a group at or under it
+-- the task that a relief's answer names as its victim, which dies alone or with its group
+abbrev pub victim_in : Reply → Option ℕ
+victim_in (reply.KilledTask t) = Some t.0
+victim_in (reply.KilledAll victim h tasks) = Some victim.0
+victim_in answer = None
+
+-- a task is killed only where nothing could be reclaimed under the limit group, and only a live one of a group at or under it; and so is each that dies with it
 abbrev pub KillsComeLast : Type 0
 KillsComeLast =
-    (before after : State) (why : Cause) (t : ℕ) → Step before (event.Relieve why) (reply.KilledTask (record { 0 = t })) after
-    → (is_idle before (target_of why) ≡ true) × (is_candidate before.tree before.tasks (target_of why) t ≡ true)
+    (before after : State) (why : Cause) (answer : Reply) (victim : ℕ) → victim_in answer ≡ Some victim → Step before (event.Relieve why) answer after
+    → (is_idle before (target_of why) ≡ true) × (is_candidate before.tree before.tasks (target_of why) victim ≡ true)
+    × ((opening : Opening) (history : List Entry) (t : ℕ) → Legal opening history before → lives before.tasks t ≡ true → lives after.tasks t ≡ false → is_candidate before.tree before.tasks (target_of why) t ≡ true)
 
--- the task that is killed is a live one of a group at or under the limit group. Of all these none has more mappings, and none that has as many has a lesser number.
+-- the task that is killed, alone or with its group, is a live one of a group at or under the limit group. Of all these none has more mappings, and none that has as many has a lesser number.
 -- (Excludes a kill of a smaller task, of one outside the limit group though it is larger, and of the one with the greater number of two that are equally large.)
 abbrev pub VictimsHaveTheMostPages : Type 0
 VictimsHaveTheMostPages =
-    (before after : State) (why : Cause) (victim : ℕ) → Step before (event.Relieve why) (reply.KilledTask (record { 0 = victim })) after
+    (before after : State) (why : Cause) (answer : Reply) (victim : ℕ) → victim_in answer ≡ Some victim → Step before (event.Relieve why) answer after
     → (is_candidate before.tree before.tasks (target_of why) victim ≡ true)
     × ((t : ℕ) → is_candidate before.tree before.tasks (target_of why) t ≡ true → size_of before.page_tables t ≤ size_of before.page_tables victim)
     × ((t : ℕ) → is_candidate before.tree before.tasks (target_of why) t ≡ true → size_of before.page_tables t ≡ size_of before.page_tables victim → victim ≤ t)
+
+-- a kill of a group: all tasks that lived at or under it are killed and show nothing any more, the victim among them, and they are so many; no other task changes, or what it shows. The group is at
+-- or under the limit, has the flag, and is the highest that has it of those from the victim's up to the limit, this counted
+pub record IsWholeKill (before : State) (limit victim h tasks : ℕ) (after : State) : Type 0 where
+  pub killed : (t : ℕ) → is_candidate before.tree before.tasks h t ≡ true → task_at after.tasks t ≡ Some (task_of (group_of_task before.tasks t) Killed)
+  pub shown : (t v : ℕ) → is_candidate before.tree before.tasks h t ≡ true → mapped_at after.page_tables t v ≡ None
+  pub nobody : (t : ℕ) → is_candidate after.tree after.tasks h t ≡ false
+  pub others : (t : ℕ) → is_candidate before.tree before.tasks h t ≡ false → task_at after.tasks t ≡ task_at before.tasks t
+  pub kept : (t v : ℕ) → is_candidate before.tree before.tasks h t ≡ false → mapped_at after.page_tables t v ≡ mapped_at before.page_tables t v
+  pub many : tasks ≡ count_there (is_live_under before.tree h) before.tasks
+  pub among : is_candidate before.tree before.tasks h victim ≡ true
+  pub flagged : is_flagged before.flags h ≡ true
+  pub within : under before.tree limit h ≡ true
+  pub highest : (a : ℕ) → under before.tree limit a ≡ true → under before.tree a h ≡ true → a ≢ h → is_flagged before.flags a ≡ false
+
+-- in whatever state a legal history ends, a kill of a group is whole. (Excludes a group of which some die and some live, tasks outside it that die, the flag of a group above the limit, and the lower of two
+-- that have it.)
+abbrev pub GroupKillsAreWhole : Type 0
+GroupKillsAreWhole =
+    (opening : Opening) (history : List Entry) (before after : State) (why : Cause) (victim h tasks : ℕ) → Legal opening history before
+    → Step before (event.Relieve why) (reply.KilledAll (record { 0 = victim }) (record { 0 = h }) tasks) after → IsWholeKill before (target_of why) victim h tasks after
+
+-- a task is killed alone only where no group from its own up to the limit, both counted, has the flag; and then no other task changes. (Excludes a group with the flag whose tasks are killed one by one.)
+abbrev pub SingleKillsAreUnflagged : Type 0
+SingleKillsAreUnflagged =
+    (opening : Opening) (history : List Entry) (before after : State) (why : Cause) (victim : ℕ) → Legal opening history before → Step before (event.Relieve why) (reply.KilledTask (record { 0 = victim })) after
+    → ((a : ℕ) → under before.tree (target_of why) a ≡ true → under before.tree a (group_of_task before.tasks victim) ≡ true → is_flagged before.flags a ≡ false)
+    × ((t : ℕ) → t ≢ victim → task_at after.tasks t ≡ task_at before.tasks t)
+
+-- what a kill counts: `oom` once at the limit; `oom_kill` at each group as often as tasks of it are killed; `oom_group_kill` once at the group that is killed, and nowhere where a task dies alone;
+-- and nothing else
+pub record CountsKill (before : State) (limit : ℕ) (killed_in : ℕ → ℕ) (group : Option ℕ) (after : State) : Type 0 where
+  pub oom : (g : ℕ) → local after.counted g key.Oom ≡ local before.counted g key.Oom + (if limit == g then 1 else 0)
+  pub oom_kill : (g : ℕ) → local after.counted g key.OomKill ≡ local before.counted g key.OomKill + killed_in g
+  pub oom_group_kill : (g : ℕ) → local after.counted g key.OomGroupKill ≡ local before.counted g key.OomGroupKill + (if is_number group g then 1 else 0)
+  pub low : (g : ℕ) → local after.counted g key.Low ≡ local before.counted g key.Low
+  pub high : (g : ℕ) → local after.counted g key.High ≡ local before.counted g key.High
+  pub max : (g : ℕ) → local after.counted g key.Max ≡ local before.counted g key.Max
+
+-- in whatever state a legal history ends, a kill of a task counts that one task, at its group, and a kill of a group each of its tasks, at the task's own. (Excludes a victim that is counted twice, tasks that are
+-- counted as one, or at the group that is killed, and a group's kill that is counted at the limit, or for each task.)
+abbrev pub KillsAreCounted : Type 0
+KillsAreCounted =
+    (opening : Opening) (history : List Entry) (before after : State) (why : Cause) → Legal opening history before
+    → ((t : ℕ) → Step before (event.Relieve why) (reply.KilledTask (record { 0 = t })) after
+    → CountsKill before (target_of why) (λ g. if group_of_task before.tasks t == g then 1 else 0) None after)
+    × ((victim h tasks : ℕ) → Step before (event.Relieve why) (reply.KilledAll (record { 0 = victim }) (record { 0 = h }) tasks) after
+    → CountsKill before (target_of why) (λ g. count_there (λ task. is_live_under before.tree h task && (task.group.0 == g)) before.tasks) (Some h) after)
 
 -- one page stood in its frame and is taken from there, and no other changes. Its group is at or under the target, and is the target itself, or used more than its effective min
 -- for a reclaim of the target
@@ -214,10 +270,10 @@ LowsAreCounted =
     × ((page.group ≡ target) ⊎ (exceeds (usage before page.group) (effective_low before target page.group) ≡ true) → after.counted ≡ before.counted))
     × (took_for what answer ≡ None → (g : ℕ) → local after.counted g key.Low ≡ local before.counted g key.Low)
 
--- where a task is killed nothing could be reclaimed whatever the groups' lows were: with other lows neither. (Excludes a kill for a page that a low protects.)
+-- where a task is killed, alone or with its group, nothing could be reclaimed whatever the groups' lows were: with other lows neither. (Excludes a kill for a page that a low protects.)
 abbrev pub LowsKillNobody : Type 0
 LowsKillNobody =
-    (before after : State) (why : Cause) (t : ℕ) (others : List Limits) → Step before (event.Relieve why) (reply.KilledTask (record { 0 = t })) after → ((g : ℕ) → (limits_at others g).min ≡ (limits_at before.limits g).min)
+    (before after : State) (why : Cause) (answer : Reply) (victim : ℕ) (others : List Limits) → victim_in answer ≡ Some victim → Step before (event.Relieve why) answer after → ((g : ℕ) → (limits_at others g).min ≡ (limits_at before.limits g).min)
     → is_idle (record before { limits = others }) (target_of why) ≡ true
 
 -- what a group below the target has of protection is shared out below it, and no more than that: where its effective min, or low, is a number of pages, so is that of each of its live
@@ -233,11 +289,11 @@ SharesStayWithin =
 abbrev pub ReclaimsGiveUpLast : Type 0
 ReclaimsGiveUpLast = (before after : State) (g : ℕ) → Step before (event.ReclaimOne (record { 0 = g })) reply.Nothing after → (is_idle before g ≡ true) × (after ≡ before)
 
--- nobody is killed for a reclaim that no charge asks for: none is answered by a kill, and no task changes
+-- nobody is killed for a reclaim that no charge asks for: none is answered by a kill, of a task or of a group, and no task changes
 abbrev pub ReclaimsKillNobody : Type 0
 ReclaimsKillNobody =
     (before after : State) (g : GroupId) (answer : Reply) → Step before (event.ReclaimOne g) answer after
-    → ((t : ℕ) → answer ≡ reply.KilledTask (record { 0 = t }) → ⊥) × (after.tasks ≡ before.tasks)
+    → (victim_in answer ≡ None) × (after.tasks ≡ before.tasks)
 
 -- whatever a run leads to, each page that is in a frame and in no transfer is once on the lists of its group and type, and no other page is on a list, or marked.
 -- (Excludes a page on the lists of a group that is not charged for it, and a mark that outlives its page.)

@@ -2,7 +2,7 @@
 //! a function that does nothing.
 #![tactic(auto)]
 
-ghost use Rattle.laws.specs.Laws.{RunsAreLegal, RunsAreHonest, NoStrangers, ErrorsAreFailures, EachFailureIsAnswered, TransfersAreInHand, NothingIsLeft, CurrentCountsPages, EventsAreThoseCounted, CountsAreOfTheHistory, ChargesStayWithinMax, OnlyAccessesCharge, KillsComeLast, VictimsHaveTheMostPages, ReadsGiveLastWrites, HonestDevicesPassTheAudit, AuditedReadsGaveLastWrites, PagesShareNoFrame, PagesShareNoBlock, BlocksAreThere, PagesShareNoTicket, FilePagesStayAtHome, FilePagesAreOne, OnlyCleanPagesAreDropped, StatAddsUpToCurrent, MappingsShowPages, MemoryWithoutAMappingIsGone, SharedBytesAgree, ForksShare, MovesTakeNoCharge, RemovalsKeepAncestorsCounts, RemovedGroupsHaveNoPages, TraceHasRoom, TransfersAreBegunLessEnded, TransfersStayCharged, RepliesAreSettled, OrdersAreSettled, WriteOutsStayCharged, ReclaimsSpareTheProtected, SharesStayWithin, LowsComeLast, LowsAreCounted, LowsKillNobody, ReclaimsGiveUpLast, ReclaimsKillNobody, HeldPagesAreListed, GenerationsHold, GroupsHaveCursors, HeldPagesGoOn, OnlyTakesAge, HitsMark, OnlyHitsMark, OnlyMergesMark, MergesChangeMarksAlone, MergesAreServed, PagesLeaveInOrder, MarkedPagesStay, GroupsAreThere};
+ghost use Rattle.laws.specs.Laws.{RunsAreLegal, RunsAreHonest, NoStrangers, ErrorsAreFailures, EachFailureIsAnswered, TransfersAreInHand, NothingIsLeft, CurrentCountsPages, EventsAreThoseCounted, CountsAreOfTheHistory, ChargesStayWithinMax, OnlyAccessesCharge, KillsComeLast, VictimsHaveTheMostPages, GroupKillsAreWhole, SingleKillsAreUnflagged, KillsAreCounted, ReadsGiveLastWrites, HonestDevicesPassTheAudit, AuditedReadsGaveLastWrites, PagesShareNoFrame, PagesShareNoBlock, BlocksAreThere, PagesShareNoTicket, FilePagesStayAtHome, FilePagesAreOne, OnlyCleanPagesAreDropped, StatAddsUpToCurrent, MappingsShowPages, MemoryWithoutAMappingIsGone, SharedBytesAgree, ForksShare, MovesTakeNoCharge, RemovalsKeepAncestorsCounts, RemovedGroupsHaveNoPages, TraceHasRoom, TransfersAreBegunLessEnded, TransfersStayCharged, RepliesAreSettled, OrdersAreSettled, WriteOutsStayCharged, ReclaimsSpareTheProtected, SharesStayWithin, LowsComeLast, LowsAreCounted, LowsKillNobody, ReclaimsGiveUpLast, ReclaimsKillNobody, HeldPagesAreListed, GenerationsHold, GroupsHaveCursors, HeldPagesGoOn, OnlyTakesAge, HitsMark, OnlyHitsMark, OnlyMergesMark, MergesChangeMarksAlone, MergesAreServed, PagesLeaveInOrder, MarkedPagesStay, GroupsAreThere};
 
 /// The history of every run leads from the opening to the run's state, one step of the plain machine
 /// an entry.
@@ -85,7 +85,7 @@ pub fn only_accesses_charge()
 {}
 
 /// A task is killed only where nothing can be reclaimed under the limit group, and only a live task
-/// of a group at or under it.
+/// of a group at or under it. So is each task that dies with it, where its group does.
 pub fn kills_come_last()
     ensures { KillsComeLast }
 {}
@@ -94,6 +94,25 @@ pub fn kills_come_last()
 /// and of those that have as many the least number.
 pub fn victims_have_the_most_pages()
     ensures { VictimsHaveTheMostPages }
+{}
+
+/// Where a group is killed as one (`memory.oom.group`), all tasks that live in it and below it are, the victim among
+/// them, and nobody else. It is the highest group with the flag from the victim's up to the limit group, both
+/// counted.
+pub fn group_kills_are_whole()
+    ensures { GroupKillsAreWhole }
+{}
+
+/// A task is killed alone only where no group from its own up to the limit group, both counted, is to be
+/// killed as one.
+pub fn single_kills_are_unflagged()
+    ensures { SingleKillsAreUnflagged }
+{}
+
+/// A kill counts `oom` once at the limit group, `oom_kill` once for each task that is killed, at its own group, and
+/// `oom_group_kill` once at the group that is killed as one, if one is; and nothing else.
+pub fn kills_are_counted()
+    ensures { KillsAreCounted }
 {}
 
 /// A page that is taken was its reclaim's target's own, or of a group below the target that used more

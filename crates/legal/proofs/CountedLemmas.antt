@@ -1,6 +1,8 @@
 -- What a step counts, and that no key is counted more often than entries allow.
-use Rattle.std.proofs.Common.{◌≡◌, ◌⊎◌, inl, inr, ℕ, zero, suc, ◌+◌, ◌<◌, ◌≤◌, ◌==◌, ◌&&◌, Bool, true, false, cond, List, [], ◌∷◌, ◌++◌, length, Option, Some, None, refl, sym, ap, ◌∙◌, subst, add-one, eqb-true, arith}
-use Rattle.std.specs.Prelude.{MatchBool, slice_set}
+use Rattle.std.proofs.Common.{◌≡◌, ◌⊎◌, inl, inr, ℕ, zero, suc, ◌+◌, ◌<◌, ◌≤◌, ◌==◌, ◌&&◌, Bool, true, false, cond, List, [], ◌∷◌, ◌++◌, length, Option, Some, None, refl, sym, ap, ◌∙◌, subst, add-one, eqb-true, arith, length-append}
+use Rattle.std.specs.Prelude.{MatchBool, slice_set, filter}
+use Rattle.std.proofs.lemmas.List.{length-map}
+use Rattle.std.proofs.lemmas.List.Sums.{length-filter}
 use Rattle.machine.specs.declared.record.EventCounts.{EventCounts}
 use Rattle.machine.specs.declared.record.Key.{Key}
 use Rattle.machine.specs.declared.record.Key.TheVariants as key
@@ -9,6 +11,7 @@ use Rattle.machine.specs.declared.record.Life.TheVariants.{Live, Exited, Killed}
 use Rattle.machine.specs.declared.record.Task.{Task}
 use Rattle.machine.specs.declared.entry.Entry.{Entry}
 use Rattle.machine.specs.declared.id.TaskId.{TaskId}
+use Rattle.machine.specs.declared.id.GroupId.{GroupId}
 use Rattle.machine.specs.declared.event.Cause.{Cause}
 use Rattle.machine.specs.declared.event.Op.{Op}
 use Rattle.machine.specs.declared.event.Op.TheVariants.{Read, Write}
@@ -20,17 +23,21 @@ use Rattle.machine.specs.declared.reply.Reply.TheVariants as reply
 use Rattle.machine.specs.Slots.{there_and}
 use Rattle.machine.specs.Pages.{Content, Memory, OfFile, Residence, Held, Coming, Going, Away, Page, is_held, is_held_in, home_block}
 use Rattle.machine.specs.Tree.{Node, under}
-use Rattle.machine.specs.Counts.{Counted, no_counts, once_more, counts_at, with_event, local, total, is_key}
-use Rattle.machine.specs.Tasks.{task_at}
+use Rattle.machine.specs.Counts.{Counted, no_counts, once_more, counts_at, with_event, local, total, is_key, count_of, with_events}
+use Rattle.machine.specs.Tasks.{Tasks, task_at, live_tasks, group_of}
 use Rattle.machine.specs.State.{Opening, State, over_in, is_frame_free}
 use Rattle.machine.specs.Access.{Meeting, Unmapped, Hits, Transferring, NeedsPage, NeedsCopy, NeedsSwapIn, NeedsRead, Dangling, meets}
 use Rattle.machine.specs.Reclaim.{has_takeable, has_open, has_transfer, stands, target_of}
+use Rattle.machine.specs.Victim.{is_live_under, killed_with, counts_of_killed, counts_of_group_kill}
 use Rattle.machine.specs.Step.{ChargeStep, HitStep, UnmappedStep, MeetStep, LifeStep, TaskStep, StartsLeave, Drops, LeavesBy, LeavesFrom, Takes, ReclaimStep, KillStep, Step}
 use Rattle.machine.specs.Legal.{Legal}
-use Rattle.machine.specs.Events.{count_of, counts_named, took_for, low_named, NamesTaken, NamesFor, Names, with_events, for_groups}
+use Rattle.machine.specs.Events.{counts_named, took_for, low_named, NamesTaken, NamesFor, Names, for_groups}
 use Rattle.machine.proofs.TakeableLemmas.{next-takeable, takeable-held, taken-named}
 use Rattle.machine.proofs.TreeLemmas.{lt_cases}
 use Rattle.counts.proofs.CountLemmas.{count_of_key-none, local-event, local-push, sum_from, sum_from-same, sum_from-le, sum_from-zero, part_under, total-is}
+use Rattle.legal.proofs.Did.{setting-is}
+use Rattle.legal.proofs.KillLemmas.{relieves_killing}
+use Rattle.legal.proofs.LiveLemmas.{live_under-lives, live-ended, live-ended-le, step_live}
 
 -- ---- what a step counts
 
@@ -144,7 +151,8 @@ module _ (old new : State) (t : TaskId) (place : Place) (op : Op) where
 
 -- a relief
 kills : (old new : State) (why : Cause) (answer : Reply) → KillStep old (target_of why) answer new → Counts old (event.Relieve why) answer new
-kills old new why (reply.KilledTask t) h = plain old new (event.Relieve why) (reply.KilledTask t) refl (ap (λ (s : State). s.counted) h.1.state)
+kills old new why (reply.KilledTask t) h = plain old new (event.Relieve why) (reply.KilledTask t) refl (ap (λ (s : State). s.counted) h.2.state)
+kills old new why (reply.KilledAll victim g tasks) h = plain old new (event.Relieve why) (reply.KilledAll victim g tasks) refl (ap (λ (s : State). s.counted) h.3.state)
 kills old new why reply.NoVictim h = plain old new (event.Relieve why) reply.NoVictim refl (ap (λ (s : State). s.counted) h.1)
 kills old new why answer h = absurd h
 
@@ -168,7 +176,7 @@ step-counted old new (event.Free t v) answer h = of_task old new (event.Free t v
 step-counted old new (event.Attach t g) reply.Ok h = plain old new _ reply.Ok refl (ap (λ (s : State). s.counted) h.1)
 step-counted old new (event.Mkdir path) reply.Ok h = plain old new (event.Mkdir path) reply.Ok refl (ap (λ (s : State). s.counted) h)
 step-counted old new (event.Rmdir g) reply.Ok h = plain old new _ reply.Ok refl (ap (λ (s : State). s.counted) h.state)
-step-counted old new (event.Set g what) reply.Ok h = plain old new _ reply.Ok refl (ap (λ (s : State). s.counted) h)
+step-counted old new (event.Set g what) reply.Ok h = plain old new _ reply.Ok refl (ap (λ (s : State). s.counted) (h ∙ setting-is old g.0 what))
 step-counted old new (event.Show what) (reply.Shown numbers) h = plain old new _ (reply.Shown numbers) refl (ap (λ (s : State). s.counted) h.1)
 step-counted old new (event.MergeMarks word bits) reply.Ok h = plain old new _ reply.Ok refl (ap (λ (s : State). s.counted) h)
 step-counted old new what answer h = absurd h
@@ -238,39 +246,73 @@ everywhere-groups counted (event.Mkdir path) k n =
     let same = sum_from-same (λ g. local (counted ++ no_counts ∷ []) g k) (λ g. local counted g k) 0 n (λ g from to. local-push counted g k) in omega (arith, same)
 everywhere-groups counted what k n = omega arith
 
-named-two : (s : State) (what : Event) (answer : Reply) (new : State) (named : List Counted) → Names s what answer new named → length named ≤ 2
-named-two s what answer new named names = by_taken (took_for what answer) names
-  where
-    of_case : (what : Event) (answer : Reply) → length (counts_named s what answer) ≤ 2
-    of_case (event.Access t place op) (reply.Over g) = omega arith
-    of_case (event.Relieve why) (reply.KilledTask t) = omega arith
-    of_case (event.Relieve why) reply.NoVictim = omega arith
-    of_case what answer = omega arith
+-- a step counts at most two events, and one more for each task that dies with a group
+module _ (old new : State) where
+  length-killed : (tree : List Node) (tasks : Tasks) (limit h : ℕ) → length (counts_of_group_kill tree tasks limit h) ≡ 2 + killed_with tree tasks h
+  length-killed tree tasks limit h =
+      let passing = filter (there_and (is_live_under tree h)) tasks in
+      let more = length-append (counts_of_killed tree tasks h) (count_of h key.OomGroupKill ∷ []) in
+      let each = length-map passing (λ (slot : Option Task). count_of (group_of slot) key.OomKill) in
+      let many = length-filter (there_and (is_live_under tree h)) tasks in
+      omega (arith, more, each, many)
 
-    of_low : (b : Bool) (g : ℕ) → length (cond b [] (count_of g key.Low ∷ [])) ≤ 2
-    of_low true g = omega arith
-    of_low false g = omega arith
+  -- whoever dies with a group lived
+  kills-live : (limit : ℕ) (victim : TaskId) (group : GroupId) (tasks : ℕ) → KillStep old limit (reply.KilledAll victim group tasks) new
+      → live_tasks new.tasks + killed_with old.tree old.tasks group.0 ≤ live_tasks old.tasks
+  kills-live limit victim group tasks kill = live-ended refl kill.3 (is_live_under old.tree group.0) (λ u is. (is, live_under-lives old.tree group.0 (task_at old.tasks u) is))
 
-    by_taken : (taken : Option ℕ) → NamesFor taken s what answer new named → length named ≤ 2
-    by_taken None is = let same = ap (λ (cs : List Counted). length cs) is in let le = of_case what answer in omega (arith, same, le)
-    by_taken (Some target) taken = let same = ap (λ (cs : List Counted). length cs) taken.are in let le = of_low (has_open s target) taken.page.group in omega (arith, same, le)
+  case-few : (what : Event) (answer : Reply) → Step old what answer new → length (counts_named old what answer) + live_tasks new.tasks ≤ live_tasks old.tasks + 2
+  case-few (event.Access t place op) (reply.Over g) h = let more = step_live old new (event.Access t place op) (reply.Over g) h in omega (arith, more)
+  case-few (event.Relieve why) (reply.KilledTask t) h =
+      let kill = relieves_killing old new why (reply.KilledTask t) refl (λ e. cc) (λ e. cc) h in
+      let less = live-ended-le refl kill.1.2 in
+      omega (arith, less)
+  case-few (event.Relieve why) (reply.KilledAll victim g tasks) h =
+      let kill = relieves_killing old new why (reply.KilledAll victim g tasks) refl (λ e. cc) (λ e. cc) h in
+      let less = kills-live (target_of why) victim g tasks kill.1 in
+      let many = length-killed old.tree old.tasks (target_of why) g.0 in
+      omega (arith, less, many)
+  case-few (event.Relieve why) reply.NoVictim h = let more = step_live old new (event.Relieve why) reply.NoVictim h in omega (arith, more)
+  case-few what answer h = let more = step_live old new what answer h in omega (arith, more)
 
--- each entry counts at most two events
-pub few-everywhere : (opening : Opening) (history : List Entry) (s : State) → Legal opening history s → (k : Key) (n : ℕ) → everywhere s.counted k n ≤ length history + length history
-few-everywhere opening [] s legal k n = let none = ap (λ (t : State). everywhere t.counted k n) legal ∙ sum_from-zero _ 0 n (λ g from to. nothing g) in omega (arith, none)
+  named-few : (what : Event) (answer : Reply) → Step old what answer new → (named : List Counted) → Names old what answer new named → length named + live_tasks new.tasks ≤ live_tasks old.tasks + 2
+  named-few what answer step named names = by_taken (took_for what answer) names
+    where
+      of_low : (b : Bool) (g : ℕ) → length (cond b [] (count_of g key.Low ∷ [])) ≤ 1
+      of_low true g = omega arith
+      of_low false g = omega arith
+
+      by_taken : (taken : Option ℕ) → NamesFor taken old what answer new named → length named + live_tasks new.tasks ≤ live_tasks old.tasks + 2
+      by_taken None is = let same = ap (λ (cs : List Counted). length cs) is in let few = case-few what answer step in omega (arith, same, few)
+      by_taken (Some target) taken =
+          let same = ap (λ (cs : List Counted). length cs) taken.are in
+          let le = of_low (has_open old target) taken.page.group in
+          let more = step_live old new what answer step in
+          omega (arith, same, le, more)
+
+-- each entry adds at most two events, but for those of tasks that live no more, of which each had an entry that made it
+few-live : (opening : Opening) (history : List Entry) (s : State) → Legal opening history s → (k : Key) (n : ℕ) → everywhere s.counted k n + live_tasks s.tasks ≤ length history + length history
+few-live opening [] s legal k n =
+    let none = ap (λ (t : State). everywhere t.counted k n) legal ∙ sum_from-zero _ 0 n (λ g from to. nothing g) in
+    let nobody : live_tasks s.tasks ≡ 0 = ap (λ (t : State). live_tasks t.tasks) legal in
+    omega (arith, none, nobody)
   where
     nothing : (g : ℕ) → local (no_counts ∷ []) g k ≡ 0
     nothing zero = count_of_key-none k
     nothing (suc g) = count_of_key-none k
-few-everywhere opening (entry ∷ earlier) s (before, legal, extends) k n =
-    let so_far = few-everywhere opening earlier before legal k n in
+few-live opening (entry ∷ earlier) s (before, legal, extends) k n =
+    let so_far = few-live opening earlier before legal k n in
     let counts = step-counted before s entry.event entry.reply extends.steps in
     let is = ap (λ (cs : List EventCounts). everywhere cs k n) counts.after in
     let more = everywhere-events (for_groups before.counted entry.event) counts.named k n in
     let groups = everywhere-groups before.counted entry.event k n in
-    let two = named-two before entry.event entry.reply s counts.named counts.names in
+    let few = named-few before s entry.event entry.reply extends.steps counts.named counts.names in
     let longer = add-one (length earlier) in
-    omega (arith, so_far, is, more, groups, two, longer)
+    omega (arith, so_far, is, more, groups, few, longer)
+
+-- no key is counted more often than twice for each entry
+pub few-everywhere : (opening : Opening) (history : List Entry) (s : State) → Legal opening history s → (k : Key) (n : ℕ) → everywhere s.counted k n ≤ length history + length history
+few-everywhere opening history s legal k n = let few = few-live opening history s legal k n in omega (arith, few)
 
 pub few-total : (opening : Opening) (history : List Entry) (s : State) → Legal opening history s → (tree : List Node) (a : ℕ) (k : Key) → total tree s.counted a k ≤ length history + length history
 few-total opening history s legal tree a k =

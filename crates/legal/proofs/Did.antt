@@ -1,5 +1,5 @@
 -- What a step did to the state, as one of few cases. Whoever asks what steps leave as it was goes by these.
-use Rattle.std.proofs.Common.{arith, ◌≡◌, ◌≢◌, inl, inr, ℕ, ◌<◌, ◌==◌, Bool, true, false, List, [], ◌∷◌, ◌++◌, Option, Some, None, eqb-true, eq-eqb, refl, sym, ap, ◌∙◌, subst}
+use Rattle.std.proofs.Common.{arith, ◌≡◌, inl, inr, ℕ, ◌<◌, Bool, true, false, List, [], ◌∷◌, ◌++◌, Option, Some, None, refl, sym, ap, ◌∙◌, subst}
 use Rattle.std.specs.Prelude.{MatchBool, nat_lt, ◌||◌, not, slice_index}
 use Rattle.std.proofs.lemmas.Bool.{cases_Bool, and_parts}
 use Rattle.std.proofs.lemmas.Bool.Decides.{nat_tests}
@@ -9,11 +9,15 @@ use Rattle.machine.specs.declared.id.TicketId.{TicketId}
 use Rattle.machine.specs.declared.record.Life.{Life}
 use Rattle.machine.specs.declared.record.Life.TheVariants.{Live, Exited, Killed}
 use Rattle.machine.specs.declared.record.Limits.{Limits}
+use Rattle.machine.specs.declared.record.OomGroup.{OomGroup}
+use Rattle.machine.specs.declared.record.OomGroup.TheVariants.{Single}
 use Rattle.machine.specs.declared.record.Task.{Task}
 use Rattle.machine.specs.declared.event.Cause.{Cause}
 use Rattle.machine.specs.declared.event.Op.{Op}
 use Rattle.machine.specs.declared.event.Op.TheVariants.{Read, Write}
 use Rattle.machine.specs.declared.event.Place.TheVariants.{Virtual, File}
+use Rattle.machine.specs.declared.event.Setting.{Setting}
+use Rattle.machine.specs.declared.event.Setting.TheVariants as setting
 use Rattle.machine.specs.declared.event.Event.{Event}
 use Rattle.machine.specs.declared.event.Event.TheVariants as event
 use Rattle.machine.specs.declared.reply.Reply.{Reply}
@@ -22,44 +26,19 @@ use Rattle.machine.specs.Slots.{Changes, there_and}
 use Rattle.machine.specs.Pages.{in_transfer_at, Content, Memory, OfFile, Residence, Held, Coming, Going, Away, Page, page_at, file_page, home_block, is_anon, frame_at, block_at, ticket_at, is_frame_taken, is_ticket_taken}
 use Rattle.machine.specs.declared.record.EventCounts.{EventCounts}
 use Rattle.machine.specs.Counts.{no_limits, no_counts}
-use Rattle.machine.specs.Tasks.{PageTables, mapped_at, mappers, Shows, Copies, ShowsNothing, SetsTask, task_at, is_live_life, is_live_task, lives, task_of, group_of, group_of_task}
+use Rattle.machine.specs.Tasks.{PageTables, mapped_at, mappers, Shows, Copies, ShowsNothing, SetsTask, task_at, is_live_life, is_live_task, lives, group_of, group_of_task}
 use Rattle.machine.specs.State.{State, page_numbers, over_in, is_frame_free}
 use Rattle.machine.specs.Access.{Meeting, Unmapped, Hits, Transferring, NeedsPage, NeedsCopy, NeedsSwapIn, NeedsRead, Dangling, page_size, is_place, meets}
 use Rattle.machine.specs.Refusals.{first_cause, life_refusal, task_refusal, refusal}
 use Rattle.machine.specs.declared.refusal.Refusal.TheVariants.{BadPlace}
 use Rattle.machine.specs.Reclaim.{counted_at_take, has_takeable, has_transfer, stands, target_of}
-use Rattle.machine.specs.Step.{ChargeStep, IsFreeBlock, MakesPage, StartsFetch, ReadsFile, HitStep, UnmappedStep, MeetStep, LifeStep, TaskStep, Takes, StartsLeave, LeavesBy, LeavesFrom, ReclaimStep, KillStep, RelieveStep, still, Frees, Removes, EndsTask, EndsTransfer, in_frame, on_block, new_node, new_page, Step}
+use Rattle.machine.specs.Step.{ChargeStep, IsFreeBlock, MakesPage, StartsFetch, ReadsFile, HitStep, UnmappedStep, MeetStep, LifeStep, TaskStep, Takes, StartsLeave, LeavesBy, LeavesFrom, ReclaimStep, KillStep, RelieveStep, Frees, Removes, EndsTasks, EndsTransfer, in_frame, on_block, new_node, new_page, with_setting, Step}
 use Rattle.machine.proofs.Values.{some_inj, never_some, unlike}
 use Rattle.legal.proofs.MoveLemmas.{MayGo, MayStay, Met, met, MetFile, met_file, Settled, hits_held, swaps_away, in_frame-cases, on_block-cases, in_frame-memory, on_block-memory}
 
 -- ---- ends of tasks
 
--- the tasks of which the test holds end with this life, each in its group: they show nothing any more, and the pages that nothing maps go. Every other task stays as it was, and shows
--- what it did. `counted` is what stands counted then
-pub record EndsTasks (old : State) (is_gone : ℕ → Bool) (life : Life) (counted : List EventCounts) (new : State) : Type 0 where
-  pub none : (u v : ℕ) → is_gone u ≡ true → mapped_at new.page_tables u v ≡ None
-  pub others : (u v : ℕ) → is_gone u ≡ false → mapped_at new.page_tables u v ≡ mapped_at old.page_tables u v
-  pub pages : (p : ℕ) → page_at new.pages p ≡ still new.page_tables p (page_at old.pages p)
-  pub ends : (u : ℕ) → is_gone u ≡ true → task_at new.tasks u ≡ Some (task_of (group_of_task old.tasks u) life)
-  pub stays : (u : ℕ) → is_gone u ≡ false → task_at new.tasks u ≡ task_at old.tasks u
-  pub state : new ≡ record old { pages = new.pages; tasks = new.tasks; page_tables = new.page_tables; counted = counted }
-
 module _ {old new : State} {life : Life} {counted : List EventCounts} where
-  -- one task ends: the test holds of its number
-  pub ends-one : (t : ℕ) → EndsTask old t life counted new → EndsTasks old (λ u. u == t) life counted new
-  ends-one t h =
-      record {
-        none = λ u v is. ap (λ (x : ℕ). mapped_at new.page_tables x v) (eqb-true u t is) ∙ h.shown.none v;
-        others = λ u v not. h.shown.others u v (differs u not);
-        pages = h.pages;
-        ends = λ u is. let same = eqb-true u t is in ap (task_at new.tasks) same ∙ h.ends.changed ∙ ap (λ (x : ℕ). Some (task_of (group_of_task old.tasks x) life)) (sym same);
-        stays = λ u not. h.ends.others u (differs u not);
-        state = h.state;
-      }
-    where
-      differs : (u : ℕ) → (u == t) ≡ false → u ≢ t
-      differs u not same = unlike (u == t) (eq-eqb u t same) not
-
   -- whoever shows a page has not ended, and showed it before
   pub ends-was : {is_gone : ℕ → Bool} → EndsTasks old is_gone life counted new → (u v p : ℕ) → mapped_at new.page_tables u v ≡ Some p → (is_gone u ≡ false) × (mapped_at old.page_tables u v ≡ Some p)
   ends-was {is_gone} h u v p at =
@@ -131,8 +110,8 @@ abbrev pub WasShared : State → ℕ → ℕ → Type 0
 WasShared s t v = (q : ℕ) → mapped_at s.page_tables t v ≡ Some q → nat_lt 1 (mappers s.page_tables q) ≡ true
 
 pub data Did (old : State) (what : Event) (answer : Reply) (new : State) : Type 0 where
-  -- nothing, but for a setting and for what stands counted
-  Kept : (limits : List Limits) (counted : List EventCounts) → new ≡ record old { limits = limits; counted = counted } → Did old what answer new
+  -- nothing, but for settings and for what stands counted
+  Kept : (limits : List Limits) (flags : List OomGroup) (counted : List EventCounts) → new ≡ record old { limits = limits; flags = flags; counted = counted } → Did old what answer new
   -- an access of a live task made a page, charged to its group, and a virtual page of the task shows it
   Made : (t v p frame : ℕ) → is_access what ≡ true → is_out answer ≡ false → lives old.tasks t ≡ true → WasShared old t v → p < page_numbers old.opening → page_at old.pages p ≡ None → is_frame_taken old.pages frame ≡ false
       → Changes old.pages new.pages p (Some (new_page (group_of_task old.tasks t) frame)) → Shows old.page_tables new.page_tables t v (Some p)
@@ -163,9 +142,15 @@ pub data Did (old : State) (what : Event) (answer : Reply) (new : State) : Type 
   -- a group is removed, and its pages are its parent's
   Removed : (g : GroupId) → what ≡ event.Rmdir g → is_out answer ≡ false → Removes old g.0 new → Did old what answer new
   -- a group more
-  Grown : (path : List ℕ) → what ≡ event.Mkdir path → is_out answer ≡ false → new ≡ record old { tree = old.tree ++ new_node old.tree path ∷ []; limits = old.limits ++ no_limits ∷ []; counted = old.counted ++ no_counts ∷ [] } → Did old what answer new
+  Grown : (path : List ℕ) → what ≡ event.Mkdir path → is_out answer ≡ false → new ≡ record old { tree = old.tree ++ new_node old.tree path ∷ []; limits = old.limits ++ no_limits ∷ []; flags = old.flags ++ Single ∷ []; counted = old.counted ++ no_counts ∷ [] } → Did old what answer new
 
 -- ---- each step is one
+
+-- a setting changes the limits or the flags
+pub setting-is : (old : State) (g : ℕ) (what : Setting) → with_setting old g what ≡ record old { limits = (with_setting old g what).limits; flags = (with_setting old g what).flags }
+setting-is old g (setting.Max amount) = refl
+setting-is old g (setting.Guard guard amount) = refl
+setting-is old g (setting.OomGroup flag) = refl
 
 module _ (old new : State) (what : Event) where
   by_test : {P Q R : Type 0} (b : Bool) → (P → R) → (Q → R) → MatchBool b P Q → R
@@ -173,7 +158,7 @@ module _ (old new : State) (what : Event) where
   by_test false f g h = g h
 
   same : (answer : Reply) → new ≡ old → Did old what answer new
-  same answer e = Kept old.limits old.counted e
+  same answer e = Kept old.limits old.flags old.counted e
 
   -- ---- accesses
 
@@ -182,7 +167,7 @@ module _ (old new : State) (what : Event) where
     charged g Granted answer granted step = by_over (over_in old g) step
       where
         by_over : (low : Option ℕ) → ChargeStep old low (is_frame_free old) Granted answer new → Did old what answer new
-        by_over (Some low) h = Kept old.limits _ h.1
+        by_over (Some low) h = Kept old.limits old.flags _ h.1
         by_over None h = by_test (is_frame_free old) granted (λ k. same answer k.1) h
 
     unmapped : (answer : Reply) → UnmappedStep old answer new → Did old what answer new
@@ -296,8 +281,9 @@ module _ (old new : State) (what : Event) where
   reclaims target Idle answer idle step = by_test (has_takeable old target) (takes target answer) (λ k. by_test (has_transfer old target) (λ w. same answer w.1) idle k) step
 
   kills : (limit : ℕ) (answer : Reply) → KillStep old limit answer new → Did old what answer new
-  kills limit (reply.KilledTask t) h = Ended _ Killed _ refl refl (ends-one t.0 h.1)
-  kills limit reply.NoVictim h = Kept old.limits _ h.1
+  kills limit (reply.KilledTask t) h = Ended _ Killed _ refl refl h.2
+  kills limit (reply.KilledAll victim g tasks) h = Ended _ Killed _ refl refl h.3
+  kills limit reply.NoVictim h = Kept old.limits old.flags _ h.1
   kills limit answer h = absurd h
 
   relieves : (why : Cause) (answer : Reply) → RelieveStep old why answer new → Did old what answer new
@@ -379,10 +365,10 @@ step_did old new (event.Fork t child) answer h =
     (λ task known alive k. Forked t child refl (ap is_out k.0) alive (subst (λ (g : ℕ). SetsTask old.tasks child.0 g Live new.tasks) (sym (ap group_of known)) k.1) k.2 k.3) h
 step_did old new (event.Free t v) answer h = of_task old new (event.Free t v) t.0 _ answer (λ task known alive k. Freed t v refl (ap is_out k.answers) alive k) h
 step_did old new (event.Attach t g) reply.Ok h = Attached t g refl refl h.0 h.1
-step_did old new (event.Exit t) answer h = of_task old new (event.Exit t) t.0 _ answer (λ task known alive k. Ended _ Exited old.counted (ap is_out k.0) refl (ends-one t.0 k.1)) h
+step_did old new (event.Exit t) answer h = of_task old new (event.Exit t) t.0 _ answer (λ task known alive k. Ended _ Exited old.counted (ap is_out k.0) refl k.1) h
 step_did old new (event.Mkdir path) reply.Ok h = Grown path refl refl h
 step_did old new (event.Rmdir g) reply.Ok h = Removed g refl refl h
-step_did old new (event.Set g what) reply.Ok h = Kept _ old.counted h
+step_did old new (event.Set g what) reply.Ok h = Kept _ _ old.counted (h ∙ setting-is old g.0 what)
 step_did old new (event.Show what) (reply.Shown numbers) h = same old new _ _ h.1
 step_did old new (event.MergeMarks word bits) reply.Ok h = same old new _ _ h
 step_did old new what answer h = absurd h

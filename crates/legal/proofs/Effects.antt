@@ -8,6 +8,7 @@ use Rattle.machine.specs.declared.id.TicketId.{TicketId}
 use Rattle.machine.specs.declared.record.Life.{Life}
 use Rattle.machine.specs.declared.record.Life.TheVariants.{Live, Exited, Killed}
 use Rattle.machine.specs.declared.record.Limits.{Limits}
+use Rattle.machine.specs.declared.record.OomGroup.{OomGroup}
 use Rattle.machine.specs.declared.record.Task.{Task}
 use Rattle.machine.specs.declared.record.Direction.{Direction}
 use Rattle.machine.specs.declared.record.Direction.TheVariants.{In, Out}
@@ -29,7 +30,7 @@ use Rattle.machine.specs.State.{State, over_in, is_frame_free}
 use Rattle.machine.specs.Access.{Meeting, Unmapped, Hits, Transferring, NeedsPage, NeedsCopy, NeedsSwapIn, NeedsRead, Dangling, meets, is_shared_write}
 use Rattle.machine.specs.Reclaim.{counted_at_take, has_takeable, has_transfer, stands, target_of}
 use Rattle.machine.specs.Refusals.{refusal}
-use Rattle.machine.specs.Step.{ChargeStep, TriesCharge, MakesPage, StartsFetch, ReadsFile, HitStep, UnmappedStep, MeetStep, LifeStep, TaskStep, Takes, StartsLeave, Drops, LeavesBy, LeavesFrom, ReclaimStep, ReclaimOneStep, KillStep, RelieveStep, still, Exits, Forks, Frees, Attaches, Removes, regrouped, EndsTransfer, in_frame, on_block, Step}
+use Rattle.machine.specs.Step.{ChargeStep, TriesCharge, MakesPage, StartsFetch, ReadsFile, HitStep, UnmappedStep, MeetStep, LifeStep, TaskStep, Takes, StartsLeave, Drops, LeavesBy, LeavesFrom, ReclaimStep, ReclaimOneStep, KillStep, RelieveStep, still, EndsTasks, Exits, Forks, Frees, Attaches, Removes, regrouped, EndsTransfer, in_frame, on_block, Step}
 use Rattle.machine.specs.History.{Spot, InTask, is_spot, Byte, As, Nothing, says_if, says, follow, ticket_given}
 use Rattle.machine.proofs.Values.{some_inj, never_some, unlike}
 use Rattle.machine.proofs.TreeLemmas.{eq_cases}
@@ -38,7 +39,7 @@ use Rattle.machine.proofs.RemovedLemmas.{regrouped-was}
 use Rattle.legal.proofs.FileSteps.{AreFiled, FilesGo, files_go}
 use Rattle.legal.proofs.ShownLemmas.{ShowsPages}
 use Rattle.legal.proofs.MoveLemmas.{Met, met, MetFile, met_file, Settled, in_frame-cases, on_block-cases}
-use Rattle.legal.proofs.Did.{EndsTasks, ends-one, ends-was}
+use Rattle.legal.proofs.Did.{ends-was, setting-is}
 
 -- ---- words
 
@@ -349,7 +350,7 @@ module _ (old new : State) (alive : AllLive old.page_tables old.tasks) (shows : 
   -- ---- little changes
 
   -- no page, no place and no task changes, and nothing is said
-  quiet : {tree : List Node} {limits : List Limits} {counted : List EventCounts} (what : Event) (answer : Reply) → new ≡ record old { tree = tree; limits = limits; counted = counted } → Silent what answer
+  quiet : {tree : List Node} {limits : List Limits} {flags : List OomGroup} {counted : List EventCounts} (what : Event) (answer : Reply) → new ≡ record old { tree = tree; limits = limits; flags = flags; counted = counted } → Silent what answer
       → ticket_given answer ≡ None → OnTasks old what answer new
   quiet what answer e silent none =
       record {
@@ -573,7 +574,7 @@ module _ (old new : State) (alive : AllLive old.page_tables old.tasks) (shows : 
   exits : (t : TaskId) (answer : Reply) → TaskStep old (task_at old.tasks t.0) (λ task. Exits old t.0 answer new) answer new → OnTasks old (event.Exit t) answer new
   exits t answer step =
       of_task (event.Exit t) answer (task_at old.tasks t.0) _ (λ t v o. refl)
-      (λ task there lives_on h. tasks_end (event.Exit t) answer _ Exited old.counted (λ t' v o. refl) (ap ticket_given h.0) (ends-one t.0 h.1)) step
+      (λ task there lives_on h. tasks_end (event.Exit t) answer _ Exited old.counted (λ t' v o. refl) (ap ticket_given h.0) h.1) step
 
   -- ---- sharing and moving
 
@@ -696,7 +697,8 @@ module _ (old new : State) (alive : AllLive old.page_tables old.tasks) (shows : 
 
   -- a task is killed, or there is none
   kills : (why : Cause) (limit : ℕ) (answer : Reply) → KillStep old limit answer new → OnTasks old (event.Relieve why) answer new
-  kills why limit (reply.KilledTask t) h = tasks_end (event.Relieve why) (reply.KilledTask t) _ Killed _ (λ t' v o. refl) refl (ends-one t.0 h.1)
+  kills why limit (reply.KilledTask t) h = tasks_end (event.Relieve why) (reply.KilledTask t) _ Killed _ (λ t' v o. refl) refl h.2
+  kills why limit (reply.KilledAll victim g tasks) h = tasks_end (event.Relieve why) (reply.KilledAll victim g tasks) _ Killed _ (λ t' v o. refl) refl h.3
   kills why limit reply.NoVictim h = quiet (event.Relieve why) reply.NoVictim h.1 (λ t v o. refl) refl
   kills why limit answer h = absurd h
 
@@ -790,7 +792,7 @@ module _ (old new : State) (alive : AllLive old.page_tables old.tasks) (shows : 
   step_on_tasks (event.Attach t g) reply.Ok none h = attaches t g h
   step_on_tasks (event.Mkdir path) reply.Ok none h = quiet (event.Mkdir path) reply.Ok h (λ t v o. refl) refl
   step_on_tasks (event.Rmdir g) reply.Ok none h = removes g h
-  step_on_tasks (event.Set g setting) reply.Ok none h = quiet (event.Set g setting) reply.Ok h (λ t v o. refl) refl
+  step_on_tasks (event.Set g setting) reply.Ok none h = quiet (event.Set g setting) reply.Ok (h ∙ setting-is old g.0 setting) (λ t v o. refl) refl
   step_on_tasks (event.Show what) (reply.Shown numbers) none h = quiet (event.Show what) (reply.Shown numbers) h.1 (λ t v o. refl) refl
   step_on_tasks (event.MergeMarks word bits) reply.Ok none h = quiet (event.MergeMarks word bits) reply.Ok h (λ t v o. refl) refl
   step_on_tasks what answer none h = absurd h

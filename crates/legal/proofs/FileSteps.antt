@@ -223,7 +223,7 @@ module _ (old new : State) (files : AreFiled old) where
       by_tests false false was is = home_same what f q (slots_beside p to f q changes was is)
 
   did_home : (what : Event) (answer : Reply) → Did old what answer new → (f q : ℕ) → HomeGoes what f q
-  did_home what answer (Kept limits counted e) f q = home_same what f q (slots_same f q (ap (λ (s : State). s.pages) e))
+  did_home what answer (Kept limits flags counted e) f q = home_same what f q (slots_same f q (ap (λ (s : State). s.pages) e))
   did_home what answer (Made t v p frame access out alive shared within free unused placed shown e) f q =
       home_one what p _ f q placed (λ before after. absurd (let wrong : false ≡ true = after in cc)) (λ page there holds. never_some (page_at old.pages p) free there)
   did_home what answer (Moved p page dirty now counted there placed moves mapped e) f q =
@@ -325,7 +325,7 @@ module _ (old new : State) where
       by_test false e = ap (λ (x : Page). x.content) (sym (some_inj e))
 
   did_contents : (what : Event) (answer : Reply) → Did old what answer new → (p : ℕ) → Contents p
-  did_contents what answer (Kept limits counted e) = contents_same (ap (λ (s : State). s.pages) e)
+  did_contents what answer (Kept limits flags counted e) = contents_same (ap (λ (s : State). s.pages) e)
   did_contents what answer (Made t v p frame access out alive shared within free unused placed shown e) = contents_one p _ placed (λ before page was is. never_some (page_at old.pages p) free was)
   did_contents what answer (Moved p page dirty now counted there placed moves mapped e) =
       contents_one p _ placed (λ before after was is. ap (λ (x : Page). x.content) (sym (some_inj is)) ∙ ap (λ (x : Page). x.content) (some_inj (sym there ∙ was)))
@@ -379,7 +379,7 @@ module _ (old new : State) (what : Event) where
   moves_filled answer page dirty now (Lies f b out framed on is as_it_was anon) frame block n coming filled = absurd (let wrong : false ≡ true = sym (ap is_filled_at is) ∙ filled in cc)
 
   did_filled : (answer : Reply) → Did old what answer new → (p : ℕ) → Filled p
-  did_filled answer (Kept limits counted e) = filled_same (ap (λ (s : State). s.pages) e)
+  did_filled answer (Kept limits flags counted e) = filled_same (ap (λ (s : State). s.pages) e)
   did_filled answer (Made t v p frame access out alive shared within free unused placed shown e) = filled_one p _ placed (λ f b n before page was is coming filled. never_some (page_at old.pages p) free was)
   did_filled answer (Moved p page dirty now counted there placed moves mapped e) =
       filled_one p _ placed

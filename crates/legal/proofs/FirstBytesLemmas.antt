@@ -158,7 +158,7 @@ module _ (old new : State) where
   empty_still tables pages p page none is of_file = never_some (page_at new.pages p) (pages p ∙ ap (still tables p) none) is
 
   did_empty : (what : Event) (answer : Reply) → Did old what answer new → (p : ℕ) → ComesEmpty p
-  did_empty what answer (Kept limits counted e) = empty_same (ap (λ (s : State). s.pages) e)
+  did_empty what answer (Kept limits flags counted e) = empty_same (ap (λ (s : State). s.pages) e)
   did_empty what answer (Made t v p frame access out alive shared within free unused placed shown e) =
       empty_one p _ placed (λ page none is of_file. unlike (is_anon page.content) (ap (λ (x : Page). is_anon x.content) (sym (some_inj is))) of_file)
   did_empty what answer (Moved p page dirty now counted there placed moves mapped e) = empty_one p _ placed (λ after none is of_file. never_some (page_at old.pages p) none there)

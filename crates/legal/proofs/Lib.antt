@@ -11,6 +11,8 @@ pub mod SettledLemmas
 pub mod OrdersLemmas
 pub mod RemovedCounts
 pub mod StepLemmas
+pub mod KillLemmas
+pub mod LiveLemmas
 pub mod CountedLemmas
 pub mod NamedLemmas
 pub mod TransferLemmas

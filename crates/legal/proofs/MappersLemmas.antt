@@ -71,7 +71,7 @@ module _ (old new : State) (alive : AllLive old.page_tables old.tasks) (mapped :
       ])
 
   did_mapped : (what : Event) (answer : Reply) → refusal old what ≡ None → Did old what answer new → AreMapped new.page_tables new.pages
-  did_mapped what answer none (Kept limits counted e) = same_mapped (ap (λ (s : State). s.pages) e) (ap (λ (s : State). s.page_tables) e)
+  did_mapped what answer none (Kept limits flags counted e) = same_mapped (ap (λ (s : State). s.pages) e) (ap (λ (s : State). s.page_tables) e)
   did_mapped what answer none (Made t v p frame access out lives_t shared within free unused placed shown e) = made
     where
       made : AreMapped new.page_tables new.pages

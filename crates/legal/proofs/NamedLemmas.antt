@@ -2,6 +2,9 @@
 use Rattle.std.proofs.Common.{◌≡◌, ◌⊎◌, inl, inr, ℕ, zero, suc, ◌+◌, ◌<◌, ◌≤◌, ◌==◌, ◌&&◌, Bool, true, false, cond, MatchBool, List, [], ◌∷◌, ◌++◌, length, Option, Some, None, refl, sym, ap, ◌∙◌, subst, eq-eqb, ne_eqb, arith, length-append, length-set}
 use Rattle.std.proofs.lemmas.Bool.Decides.{eqb_tells}
 use Rattle.std.proofs.lemmas.Bool.{and_parts}
+use Rattle.std.specs.Prelude.{filter}
+use Rattle.std.specs.List.{All, last_or}
+use Rattle.std.proofs.lemmas.List.Elements.{All-nil, All-cons, All-head, All-tail, All-append, All-filter, All-take}
 use Rattle.std.proofs.lemmas.List.Sums.{sum_by-append, sum_by-cons}
 use Rattle.std.proofs.Math.ListN.{get_or-eq_default}
 use Rattle.machine.specs.declared.entry.Entry.{Entry}
@@ -11,6 +14,7 @@ use Rattle.machine.specs.declared.record.Key.TheVariants as key
 use Rattle.machine.specs.declared.record.Life.{Life}
 use Rattle.machine.specs.declared.record.Life.TheVariants.{Live, Exited, Killed}
 use Rattle.machine.specs.declared.record.Limits.{Limits}
+use Rattle.machine.specs.declared.record.OomGroup.{OomGroup}
 use Rattle.machine.specs.declared.record.Task.{Task}
 use Rattle.machine.specs.declared.event.Cause.{Cause}
 use Rattle.machine.specs.declared.event.Cause.TheVariants as cause
@@ -23,23 +27,25 @@ use Rattle.machine.specs.declared.event.Event.TheVariants as event
 use Rattle.machine.specs.declared.reply.Reply.{Reply}
 use Rattle.machine.specs.declared.reply.Reply.TheVariants as reply
 use Rattle.machine.specs.Slots.{there_and}
-use Rattle.machine.specs.Tree.{Node, IsTree, node_at, no_node, is_live}
-use Rattle.machine.specs.Pages.{Content, Memory, OfFile, Residence, Held, Coming, Going, Away, Page, page_at, home_block}
-use Rattle.machine.specs.Counts.{Counted, is_full, over_at, no_counts, once_more, counts_at, with_event, local, is_key, how_often}
+use Rattle.machine.specs.Tree.{Node, IsTree, IsBelow, node_at, no_node, is_live, chain_up, chain, chain_below}
+use Rattle.machine.specs.Pages.{Page, page_at}
+use Rattle.machine.specs.Counts.{Counted, is_full, over_at, no_counts, once_more, counts_at, with_event, local, is_key, how_often, count_of, with_events}
 use Rattle.machine.specs.Tasks.{Tasks, task_at, is_live_life, is_live_task, lives, group_of, group_of_task}
 use Rattle.machine.specs.State.{Opening, State, first_state, usage, over_in, is_frame_free}
 use Rattle.machine.specs.Access.{Meeting, Unmapped, Hits, Transferring, NeedsPage, NeedsCopy, NeedsSwapIn, NeedsRead, Dangling, meets}
-use Rattle.machine.specs.Reclaim.{has_takeable, has_open, has_transfer, stands, target_of}
-use Rattle.machine.specs.Victim.{is_live_under, is_candidate}
-use Rattle.machine.specs.Step.{Only, ChargeStep, HitStep, MeetStep, LifeStep, TaskStep, StartsLeave, Drops, LeavesBy, LeavesFrom, Takes, ReclaimStep, KillStep, RelieveStep, new_node, Step}
+use Rattle.machine.specs.Reclaim.{has_open, stands, target_of}
+use Rattle.machine.specs.Victim.{is_live_under, is_candidate, is_flagged, chain_to, kill_group, counts_of_killed}
+use Rattle.machine.specs.Step.{ChargeStep, HitStep, MeetStep, LifeStep, TaskStep, new_node, Step}
 use Rattle.machine.specs.Legal.{Extends, Legal}
-use Rattle.machine.specs.Events.{count_of, counts_named, took_for, low_named, NamesFor, Names, AreCounted, with_events, for_groups}
+use Rattle.machine.specs.Events.{counts_named, took_for, low_named, NamesFor, Names, AreCounted, for_groups}
 use Rattle.machine.proofs.Values.{some_inj, unlike}
-use Rattle.machine.proofs.TreeLemmas.{lt_cases, over_at-None, over_at-step}
+use Rattle.machine.proofs.TreeLemmas.{lt_cases, parent_in, over_at-None, over_at-step}
 use Rattle.counts.proofs.CountLemmas.{count_of_key-none, local-event, local-push}
 use Rattle.legal.proofs.OpeningLemmas.{tree_after, step_tree}
 use Rattle.legal.proofs.MoveLemmas.{MetFile, met_file, swaps_away}
 use Rattle.legal.proofs.SoundLemmas.{IsSound, legal-sound, legal-fit}
+use Rattle.legal.proofs.KillLemmas.{relieves_killing}
+use Rattle.legal.proofs.LiveLemmas.{live_under-lives}
 use Rattle.legal.proofs.CountedLemmas.{step-counted}
 
 -- ---- the lowest group without room is there
@@ -85,36 +91,9 @@ hit_never : (old new : State) (a p frame : ℕ) (page : Page) (op : Op) → HitS
 hit_never old new a p frame page Read h = h
 hit_never old new a p frame page (Write b) h = h
 
--- it says that a page was taken
-abbrev is_taking : Reply → Bool
-is_taking (reply.Out ticket) = true
-is_taking reply.Dropped = true
-is_taking answer = false
-
-taking_by : (old new : State) (p frame : ℕ) (page : Page) (content : Content) (counted : List EventCounts) (answer : Reply) → LeavesBy old p page content frame counted answer new → is_taking answer ≡ true
-taking_by old new p frame page Memory counted answer h = ap is_taking h.leave.answers
-taking_by old new p frame page (OfFile file q) counted answer h = by_dirty page.dirty h
-  where
-    by_dirty : (b : Bool) → MatchBool b (StartsLeave old p page frame (home_block old.opening.swap old.opening.files file q) counted answer new) (Drops old p counted answer new) → is_taking answer ≡ true
-    by_dirty true k = ap is_taking k.answers
-    by_dirty false k = ap is_taking k.answers
-
-taking_from : (old new : State) (p : ℕ) (page : Page) (residence : Residence) (counted : List EventCounts) (answer : Reply) → LeavesFrom old p page residence counted answer new → is_taking answer ≡ true
-taking_from old new p page (Held frame) counted answer h = taking_by old new p frame page page.content counted answer h
-taking_from old new p page (Coming frame block ticket) counted answer h = absurd h
-taking_from old new p page (Going frame block ticket) counted answer h = absurd h
-taking_from old new p page (Away block) counted answer h = absurd h
-
-never_taken : (old : State) (target : ℕ) (answer : Reply) (new : State) → is_taking answer ≡ false → Takes old target answer new → ⊥
-never_taken old target answer new other h = unlike (is_taking answer) (taking_from old new h.p h.page h.page.residence _ answer h.leaves) other
-
 -- who can be killed is live
 candidate_lives : (tree : List Node) (tasks : Tasks) (limit t : ℕ) → is_candidate tree tasks limit t ≡ true → lives tasks t ≡ true
-candidate_lives tree tasks limit t among = by_slot (task_at tasks t) among
-  where
-    by_slot : (slot : Option Task) → there_and (is_live_under tree limit) slot ≡ true → there_and is_live_task slot ≡ true
-    by_slot None is = cc
-    by_slot (Some task) is = (and_parts (is_live_task task) _ is).0
+candidate_lives tree tasks limit t among = live_under-lives tree limit (task_at tasks t) among
 
 -- ---- what a step counts is counted at groups that are there
 
@@ -122,6 +101,50 @@ candidate_lives tree tasks limit t among = by_slot (task_at tasks t) among
 abbrev pub AreOf : ℕ → List Counted → Type 0
 AreOf n [] = Unit {0}
 AreOf n (c ∷ events) = (c.group < n) × AreOf n events
+
+all-of : (n : ℕ) (xs ys : List Counted) → AreOf n xs → AreOf n ys → AreOf n (xs ++ ys)
+all-of n [] ys are more = more
+all-of n (c ∷ xs) ys are more = (are.0, all-of n xs ys are.1 more)
+
+-- the group of each task that dies with a group
+killed-there : (tree : List Node) (h n : ℕ) (tasks : Tasks) → ((t : ℕ) → lives tasks t ≡ true → group_of_task tasks t < n) → AreOf n (counts_of_killed tree tasks h)
+killed-there tree h n [] homes = tt
+killed-there tree h n (slot ∷ tasks) homes = by_test (there_and (is_live_under tree h) slot) refl (killed-there tree h n tasks (λ t. homes (suc t)))
+  where
+    by_test : (b : Bool) → there_and (is_live_under tree h) slot ≡ b → AreOf n (counts_of_killed tree tasks h) → AreOf n (counts_of_killed tree (slot ∷ tasks) h)
+    by_test true is rest = rw is (homes 0 (live_under-lives tree h slot is), rest)
+    by_test false is rest = rw is rest
+
+-- ---- the group that is killed as one is there
+
+-- below a number
+abbrev IsWithin : ℕ → ℕ → Type 0
+IsWithin n a = a < n
+
+module _ (tree : List Node) (falls : IsTree tree) (n : ℕ) where
+  chain_up-there : (steps : ℕ) (at : Option ℕ) → IsBelow at n → All (IsWithin n) (chain_up steps tree at)
+  unfolding chain_up
+  chain_up-there zero at below = All-nil (IsWithin n)
+  chain_up-there (suc steps) None below = All-nil (IsWithin n)
+  chain_up-there (suc steps) (Some g) below =
+      All-cons (IsWithin n) g (chain_up steps tree (node_at tree g).parent) below (chain_up-there steps (node_at tree g).parent (parent_in tree falls g n below))
+
+  chain_below-there : (limit g : ℕ) → g < n → All (IsWithin n) (chain_below tree limit g)
+  unfolding chain_below chain
+  chain_below-there limit g below = All-take (IsWithin n) _ (chain_up (suc g) tree (Some g)) (chain_up-there (suc g) (Some g) below)
+
+last-there : (n : ℕ) (o : Option ℕ) (xs : List ℕ) → IsBelow o n → All (IsWithin n) xs → IsBelow (last_or o xs) n
+last-there n o [] below all = below
+last-there n o (x ∷ xs) below all = last-there n (Some x) xs (All-head (IsWithin n) x xs all) (All-tail (IsWithin n) x xs all)
+
+kill_group-there : (tree : List Node) → IsTree tree → (flags : List OomGroup) (n limit g h : ℕ) → limit < n → g < n → kill_group tree flags limit g ≡ Some h → h < n
+kill_group-there tree falls flags n limit g h below own is = subst (λ (o : Option ℕ). IsBelow o n) is (last-there n None (filter (is_flagged flags) (chain_to tree limit g)) tt flagged)
+  where
+    on_chain : All (IsWithin n) (chain_to tree limit g)
+    on_chain = All-append (IsWithin n) (chain_below tree limit g) (limit ∷ []) (chain_below-there tree falls n limit g own) (All-cons (IsWithin n) limit [] below (All-nil (IsWithin n)))
+
+    flagged : All (IsWithin n) (filter (is_flagged flags) (chain_to tree limit g))
+    flagged = All-filter (is_flagged flags) (IsWithin n) (chain_to tree limit g) on_chain
 
 module _ (opening : Opening) (history : List Entry) (old new : State) (legal : Legal opening history old) where
   sound : IsSound opening.swap opening.files old.pages old.tasks old.tree
@@ -191,27 +214,26 @@ module _ (opening : Opening) (history : List Entry) (old new : State) (legal : L
   target-there some (cause.Lower g) is = live-within old.tree g.0 (and_parts (is_live old.tree g.0) _ is).0
   target-there some cause.Frame is = some
 
-  -- where a relief is answered so, nobody gave a page
-  module _ (why : Cause) (answer : Reply) (other : is_taking answer ≡ false) (not_room : answer ≡ reply.Room → ⊥) (not_wait : answer ≡ reply.Wait → ⊥) where
-    relieves : RelieveStep old why answer new → (stands old why ≡ true) × KillStep old (target_of why) answer new
-    relieves h = by_cause (stands old why) refl h
-      where
-        wanted : ReclaimStep old (target_of why) (KillStep old (target_of why) answer new) answer new → KillStep old (target_of why) answer new
-        wanted h = by_test (has_takeable old (target_of why)) (λ (k : Takes old (target_of why) answer new). absurd (never_taken old (target_of why) answer new other k)) (by_test (has_transfer old (target_of why)) (λ w. absurd (not_wait w.0)) (λ k. k)) h
-
-        by_cause : (b : Bool) → stands old why ≡ b
-            → MatchBool b (ReclaimStep old (target_of why) (KillStep old (target_of why) answer new) answer new) (Only old reply.Room answer new) → (stands old why ≡ true) × KillStep old (target_of why) answer new
-        by_cause true is h = (is, wanted h)
-        by_cause false is h = absurd (not_room h.0)
+  -- the group of a live task is there
+  home-there : (t : ℕ) → lives old.tasks t ≡ true → group_of_task old.tasks t < length old.tree
+  home-there t alive = live-within old.tree (group_of_task old.tasks t) (sound.homes t alive)
 
   case-there : 0 < length old.tree → (what : Event) (answer : Reply) → Step old what answer new → AreOf (length old.tree) (counts_named old what answer)
   case-there some (event.Access t place op) (reply.Over g) h = (accesses t.0 place op g.0 h, tt)
   case-there some (event.Relieve why) (reply.KilledTask t) h =
-      let kill = relieves why (reply.KilledTask t) refl (λ e. cc) (λ e. cc) h in (
+      let kill = relieves_killing old new why (reply.KilledTask t) refl (λ e. cc) (λ e. cc) h in (
         target-there some why kill.0,
-        (live-within old.tree (group_of_task old.tasks t.0) (sound.homes t.0 (candidate_lives old.tree old.tasks (target_of why) t.0 kill.1.0.among)), tt),
+        (home-there t.0 (candidate_lives old.tree old.tasks (target_of why) t.0 kill.1.0.among), tt),
       )
-  case-there some (event.Relieve why) reply.NoVictim h = let kill = relieves why reply.NoVictim refl (λ e. cc) (λ e. cc) h in (target-there some why kill.0, tt)
+  case-there some (event.Relieve why) (reply.KilledAll victim g tasks) h =
+      let kill = relieves_killing old new why (reply.KilledAll victim g tasks) refl (λ e. cc) (λ e. cc) h in
+      let limit = target-there some why kill.0 in
+      let own = home-there victim.0 (candidate_lives old.tree old.tasks (target_of why) victim.0 kill.1.0.among) in (
+        limit,
+        all-of (length old.tree) (counts_of_killed old.tree old.tasks g.0) _ (killed-there old.tree g.0 (length old.tree) old.tasks home-there)
+            (kill_group-there old.tree sound.falls old.flags (length old.tree) (target_of why) (group_of_task old.tasks victim.0) g.0 limit own kill.1.1, tt),
+      )
+  case-there some (event.Relieve why) reply.NoVictim h = let kill = relieves_killing old new why reply.NoVictim refl (λ e. cc) (λ e. cc) h in (target-there some why kill.0, tt)
   case-there some what answer h = tt
 
   -- the group of a page that is taken
@@ -309,19 +331,27 @@ nothing-told opening s first g k = ap (λ (t : State). local t.counted g k) firs
     nothing zero k = count_of_key-none k
     nothing (suc g) k = count_of_key-none k
 
+-- a step counts what it names, and nothing else, at groups that are there
+pub step-counts : (opening : Opening) (earlier : List Entry) (before s : State) (what : Event) (answer : Reply) → Legal opening earlier before → (step : Step before what answer s) → (g : ℕ) (k : Key)
+    → local s.counted g k ≡ local before.counted g k + how_often (step-counted before s what answer step).named g k
+step-counts opening earlier before s what answer legal step g k =
+    let has = has-counts opening earlier before legal in
+    let counts = step-counted before s what answer step in
+    let named = counts.named in
+    let there = named-there opening earlier before s legal has.some what answer step named counts.names in
+    let all = length-groups before what has.all in
+    let more = more-groups before what in
+    ap (λ (cs : List EventCounts). local cs g k) counts.after
+    ∙ local-events (for_groups before.counted what) named (more-of (length before.tree) _ (omega (arith, all, more)) named there) g k
+    ∙ ap (λ n. n + how_often named g k) (local-groups before.counted what g k)
+
 -- and with those of one step more
 pub step-told : (opening : Opening) (earlier : List Entry) (entry : Entry) (before s : State) (so_far : List Counted) → Legal opening earlier before → (extends : Extends before earlier entry s) → Tells before so_far
     → Tells s (so_far ++ (step-counted before s entry.event entry.reply extends.steps).named)
 step-told opening earlier entry before s so_far legal extends told g k =
-    let has = has-counts opening earlier before legal in
-    let counts = step-counted before s entry.event entry.reply extends.steps in
-    let named = counts.named in
-    let there = named-there opening earlier before s legal has.some entry.event entry.reply extends.steps named counts.names in
-    let all = length-groups before entry.event has.all in
-    let more = more-groups before entry.event in
-    ap (λ (cs : List EventCounts). local cs g k) counts.after
-    ∙ local-events (for_groups before.counted entry.event) named (more-of (length before.tree) _ (omega (arith, all, more)) named there) g k
-    ∙ ap (λ n. n + how_often named g k) (local-groups before.counted entry.event g k ∙ told g k)
+    let named = (step-counted before s entry.event entry.reply extends.steps).named in
+    step-counts opening earlier before s entry.event entry.reply legal extends.steps g k
+    ∙ ap (λ n. n + how_often named g k) (told g k)
     ∙ sym (sum_by-append (λ (x : Counted). cond ((x.group == g) && is_key x.key k) 1 0) so_far named)
 
 -- a legal history can be read as a list of events

@@ -26,7 +26,7 @@ pub step_opening : (old : State) (what : Event) (answer : Reply) (new : State) �
 step_opening old what answer new step = by_case (step_did old new what answer step)
   where
     by_case : Did old what answer new → new.opening ≡ old.opening
-    by_case (Kept limits counted e) = ap (λ (s : State). s.opening) e
+    by_case (Kept limits flags counted e) = ap (λ (s : State). s.opening) e
     by_case (Made t v p frame access out alive shared within free unused placed shown e) = ap (λ (s : State). s.opening) e
     by_case (Moved p page dirty now counted there placed moves mapped e) = ap (λ (s : State). s.opening) e
     by_case (Cached t f q p frame ticket access out alive unread within free unused fresh filed placed e) = ap (λ (s : State). s.opening) e
@@ -40,7 +40,7 @@ step_opening old what answer new step = by_case (step_did old new what answer st
     by_case (Grown path is out e) = ap (λ (s : State). s.opening) e
 
 same_tree : (old new : State) (what : Event) (answer : Reply) → changes_groups what ≡ false → Did old what answer new → new.tree ≡ old.tree
-same_tree old new what answer other (Kept limits counted e) = ap (λ (s : State). s.tree) e
+same_tree old new what answer other (Kept limits flags counted e) = ap (λ (s : State). s.tree) e
 same_tree old new what answer other (Made t v p frame access out alive shared within free unused placed shown e) = ap (λ (s : State). s.tree) e
 same_tree old new what answer other (Moved p page dirty now counted there placed moves mapped e) = ap (λ (s : State). s.tree) e
 same_tree old new what answer other (Cached t f q p frame ticket access out alive unread within free unused fresh filed placed e) = ap (λ (s : State). s.tree) e

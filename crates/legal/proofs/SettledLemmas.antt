@@ -28,13 +28,13 @@ use Rattle.machine.specs.Tasks.{Tasks, PageTables, task_at, size_of}
 use Rattle.machine.specs.State.{State, is_swap_free}
 use Rattle.machine.specs.Access.{Meeting, Unmapped, Hits, Transferring, NeedsPage, NeedsCopy, NeedsSwapIn, NeedsRead, Dangling, meets, meets_mapped}
 use Rattle.machine.specs.Reclaim.{has_takeable, has_transfer, stands, target_of}
-use Rattle.machine.specs.Victim.{is_candidate, is_worse, IsWorst}
+use Rattle.machine.specs.Victim.{is_candidate, is_worse, IsWorst, kill_group_of, killed_with}
 use Rattle.machine.specs.Eviction.{Picks}
 use Rattle.machine.specs.Lists.{HeldLists, Order, served, seen_of, PicksOf, TakesNext, Orders}
 use Rattle.machine.specs.Step.{ChargeStep, MakesPage, StartsFetch, ReadsFile, HitStep, UnmappedStep, MeetStep, LifeStep, TaskStep, Takes, StartsLeave, Drops, LeavesBy, LeavesFrom, ReclaimStep, KillStep, EndsTransfer, Step}
 use Rattle.machine.specs.Refusals.{refusal}
 use Rattle.machine.specs.Call.{Past, Caller, Refuses, Answers, Answered, JudgedBy, Called, knows_pass, is_trace_full, AreBytesAlike, AreAlike}
-use Rattle.machine.proofs.Values.{some_inj, unlike}
+use Rattle.machine.proofs.Values.{some_inj, never_some, unlike}
 use Rattle.machine.proofs.TreeLemmas.{eq_cases}
 use Rattle.legal.proofs.MoveLemmas.{Met, met, MetFile, met_file}
 use Rattle.machine.proofs.PicksLemmas.{picks_alike}
@@ -275,14 +275,30 @@ module _ (old new new' : State) (order order' order'' : Order) where
       let what = event.Access t place op in charged what answer answer' _ _ _ _ (reads what answer answer' f q g) h h'
   meeting t place g op answer answer' Dangling is h h' = absurd h
 
-  -- both kill one task, or there is none
+  -- a victim dies alone, or with a group
+  one_or_all : {P : Type 0} (limit t victim g : ℕ) → t ≡ victim → kill_group_of old.tree old.flags old.tasks limit t ≡ None → kill_group_of old.tree old.flags old.tasks limit victim ≡ Some g → P
+  one_or_all limit t victim g same none some = never_some (kill_group_of old.tree old.flags old.tasks limit victim) (ap (kill_group_of old.tree old.flags old.tasks limit) (sym same) ∙ none) some
+
+  -- both kill one task, or one group, or there is none
   kills : (what : Event) (limit : ℕ) (answer answer' : Reply) → KillStep old limit answer new → KillStep old limit answer' new' → AreAlike what answer answer'
   kills what limit (reply.KilledTask t) (reply.KilledTask t') h h' =
       ap (λ (n : ℕ). reply.KilledTask (record { 0 = n })) (worst_is_one old.tree old.tasks old.page_tables limit t.0 t'.0 h.0 h'.0)
+  kills what limit (reply.KilledAll victim g tasks) (reply.KilledAll victim' g' tasks') h h' =
+      let same_victim = worst_is_one old.tree old.tasks old.page_tables limit victim.0 victim'.0 h.0 h'.0 in
+      let same_group : g.0 ≡ g'.0 = some_inj (sym h.1 ∙ ap (kill_group_of old.tree old.flags old.tasks limit) same_victim ∙ h'.1) in
+      let same_many : tasks ≡ tasks' = h.2 ∙ ap (killed_with old.tree old.tasks) same_group ∙ sym h'.2 in
+      ap (λ (n : ℕ). reply.KilledAll (record { 0 = n }) g tasks) same_victim ∙ ap (λ (n : ℕ). reply.KilledAll victim' (record { 0 = n }) tasks) same_group ∙ ap (λ (n : ℕ). reply.KilledAll victim' g' n) same_many
+  kills what limit (reply.KilledTask t) (reply.KilledAll victim g tasks) h h' =
+      one_or_all limit t.0 victim.0 g.0 (worst_is_one old.tree old.tasks old.page_tables limit t.0 victim.0 h.0 h'.0) h.1 h'.1
+  kills what limit (reply.KilledAll victim g tasks) (reply.KilledTask t) h h' =
+      one_or_all limit t.0 victim.0 g.0 (worst_is_one old.tree old.tasks old.page_tables limit t.0 victim.0 h'.0 h.0) h'.1 h.1
+  kills what limit (reply.KilledAll victim g tasks) reply.NoVictim h h' = unlike (is_candidate old.tree old.tasks limit victim.0) h.0.among (h'.0 victim.0)
+  kills what limit reply.NoVictim (reply.KilledAll victim g tasks) h h' = unlike (is_candidate old.tree old.tasks limit victim.0) h'.0.among (h.0 victim.0)
   kills what limit (reply.KilledTask t) reply.NoVictim h h' = unlike (is_candidate old.tree old.tasks limit t.0) h.0.among (h'.0 t.0)
   kills what limit reply.NoVictim (reply.KilledTask t) h h' = unlike (is_candidate old.tree old.tasks limit t.0) h'.0.among (h.0 t.0)
   kills what limit reply.NoVictim reply.NoVictim h h' = refl
   kills what limit (reply.KilledTask t) answer' h h' = absurd h'
+  kills what limit (reply.KilledAll victim g tasks) answer' h h' = absurd h'
   kills what limit reply.NoVictim answer' h h' = absurd h'
   kills what limit answer answer' h h' = absurd h
 

@@ -67,7 +67,7 @@ module _ (old new : State) (shows : ShowsMemory old) where
 
   -- what was done leaves it so
   did_shows : (what : Event) (answer : Reply) → Did old what answer new → ShowsMemory new
-  did_shows what answer (Kept limits counted e) u w q at = subst ShowsMemory (sym e) shows u w q at
+  did_shows what answer (Kept limits flags counted e) u w q at = subst ShowsMemory (sym e) shows u w q at
   did_shows what answer (Made t v p frame access out alive shared within free unused placed shown e) u w q at =
       elim (shows-cases old.page_tables new.page_tables t v (Some p) shown u w) [
         | inl here ↦ (let same : q ≡ p = some_inj (sym at ∙ here) in ap (λ (x : ℕ). is_memory (page_at new.pages x)) same ∙ ap is_memory placed.changed)

@@ -25,7 +25,7 @@ use Rattle.machine.specs.Tasks.{is_live_in, has_tasks, Tasks, task_at, is_live_l
 use Rattle.machine.specs.State.{Opening, State, first_state}
 use Rattle.machine.specs.declared.refusal.Refusal.{Refusal}
 use Rattle.machine.specs.Refusals.{group_refusal, rmdir_refusal, refusal, first_cause}
-use Rattle.machine.specs.Step.{IsFreeBlock, still, new_page, regrouped, Removes}
+use Rattle.machine.specs.Step.{IsFreeBlock, still, EndsTasks, new_page, regrouped, Removes}
 use Rattle.machine.specs.Legal.{Legal}
 use Rattle.machine.proofs.Values.{some_inj, never_some, unlike}
 use Rattle.machine.proofs.TreeLemmas.{eq_cases, lt_cases, IsTree-push}
@@ -34,7 +34,7 @@ use Rattle.machine.proofs.TestLemmas.{count-less, count-two, none_has}
 use Rattle.machine.proofs.SlotLemmas.{one_if, count_there-none, count_there-changes}
 use Rattle.machine.proofs.FileLemmas.{holds_page, is_page_of-true, IsSingle, single_fewer, single_changes, home_above, home_below, homes_differ}
 use Rattle.legal.proofs.FileSteps.{AreFiled}
-use Rattle.legal.proofs.Did.{EndsTasks, GoesTo, read_page, Moves, Rests, Comes, Goes, Lands, Lies, Did, Kept, Made, Moved, Cached, Dropped, Ended, Spawned, Forked, Freed, Attached, Removed, Grown, step_did}
+use Rattle.legal.proofs.Did.{GoesTo, read_page, Moves, Rests, Comes, Goes, Lands, Lies, Did, Kept, Made, Moved, Cached, Dropped, Ended, Spawned, Forked, Freed, Attached, Removed, Grown, step_did}
 
 -- ---- what is sound
 
@@ -489,7 +489,7 @@ module _ (opening : Opening) (old new : State) (sound : sound_in opening old) wh
       kept = by_tests (is_live old.tree g) (g == 0) (has_children old.tree g) (has_tasks old.tasks g) none
 
   did_sound : (what : Event) (answer : Reply) → refusal old what ≡ None → Did old what answer new → sound_in opening new
-  did_sound what answer none (Kept limits counted e) = subst (sound_in opening) (sym e) (sound.0, sound.1)
+  did_sound what answer none (Kept limits flags counted e) = subst (sound_in opening) (sym e) (sound.0, sound.1)
   did_sound what answer none (Made t v p frame access out alive shared within free unused placed shown e) =
       pages_sound e (sound-placed opening.swap opening.files old.pages new.pages old.tasks old.tree p sound.1 (group_of_task old.tasks t) frame (sound.1.homes t alive) unused placed)
   did_sound what answer none (Moved p page dirty now counted there placed moves mapped e) = pages_sound e (moved_sound what answer p page dirty now there placed moves)

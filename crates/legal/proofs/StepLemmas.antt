@@ -85,7 +85,7 @@ module _ (old new : State) where
       ])
 
   did-places : (what : Event) (answer : Reply) → is_rmdir what ≡ false → Did old what answer new → SamePlaces old.pages new.pages
-  did-places what answer stays (Kept limits counted e) = places-same (ap (λ (s : State). s.pages) e)
+  did-places what answer stays (Kept limits flags counted e) = places-same (ap (λ (s : State). s.pages) e)
   did-places what answer stays (Made t v p frame access out alive shared within free unused placed shown e) = let made : Option Page = Some (new_page (group_of_task old.tasks t) frame) in places-one p None made free placed (alike-new made)
   did-places what answer stays (Moved p page dirty now counted there placed moves mapped e) = let moved : Option Page = Some (record { content = page.content; group = page.group; dirty = dirty; residence = now }) in places-one p (Some page) moved there placed (alike-moved page dirty now)
   did-places what answer stays (Cached t f q p frame ticket access out alive unread within free unused fresh filed placed e) = let read : Option Page = Some (read_page (group_of_task old.tasks t) f q (Coming frame (home_block old.opening.swap old.opening.files f q) ticket)) in places-one p None read free placed (alike-new read)
@@ -154,7 +154,7 @@ module _ (old new : State) (many : ℕ) (numbers : page_numbers old.opening ≡ 
   }
 
   did-numbered : (what : Event) (answer : Reply) → Did old what answer new → IsNumbered many new.pages
-  did-numbered what answer (Kept limits counted e) = numbered-same (ap (λ (s : State). s.pages) e)
+  did-numbered what answer (Kept limits flags counted e) = numbered-same (ap (λ (s : State). s.pages) e)
   did-numbered what answer (Made t v p frame access out alive shared within free unused placed shown e) = numbered-one p _ placed (subst (λ (n : ℕ). p < n) numbers within)
   did-numbered what answer (Moved p page dirty now counted there placed moves mapped e) = numbered-one p _ placed (subst (λ (o : Option Page). IfSome o (λ x. p < many)) there (was.below p))
   did-numbered what answer (Cached t f q p frame ticket access out alive unread within free unused fresh filed placed e) = numbered-one p _ placed (subst (λ (n : ℕ). p < n) numbers within)

@@ -28,6 +28,7 @@ use Rattle.machine.specs.Call.{is_granted, meeting_fetches, life_fetches, task_f
 use Rattle.machine.specs.Step.{ChargeStep, TriesCharge, MakesPage, StartsFetch, ReadsFile, HitStep, UnmappedStep, MeetStep, LifeStep, TaskStep, StartsLeave, Drops, LeavesBy, LeavesFrom, Takes, ReclaimStep, KillStep, RelieveStep, still, EndsTransfer, touched, Step}
 use Rattle.machine.proofs.SlotLemmas.{one_if, count_there-changes}
 use Rattle.machine.proofs.TestLemmas.{count-less}
+use Rattle.legal.proofs.Did.{setting-is}
 use Rattle.legal.proofs.SoundLemmas.{still_passes}
 use Rattle.legal.proofs.MoveLemmas.{MetFile, met_file, Settled, hits_held, swaps_away, in_frame-cases, on_block-cases}
 use Rattle.legal.proofs.OpeningLemmas.{step_opening}
@@ -245,7 +246,8 @@ module _ (old new : State) where
       quiet what answer other none (omega (arith, fewer, more))
 
   kills : (why : Cause) (limit : ℕ) (answer : Reply) → KillStep old limit answer new → Flies old (event.Relieve why) answer new
-  kills why limit (reply.KilledTask t) h = pages_still (event.Relieve why) (reply.KilledTask t) refl refl h.1.pages
+  kills why limit (reply.KilledTask t) h = pages_still (event.Relieve why) (reply.KilledTask t) refl refl h.2.pages
+  kills why limit (reply.KilledAll victim g tasks) h = pages_still (event.Relieve why) (reply.KilledAll victim g tasks) refl refl h.3.pages
   kills why limit reply.NoVictim h = same_pages (event.Relieve why) reply.NoVictim refl refl (ap (λ (s : State). s.pages) h.1)
   kills why limit answer h = absurd h
 
@@ -315,7 +317,7 @@ step_flies old new (event.Free t v) answer h =
 step_flies old new (event.Attach t g) reply.Ok h = same_pages old new (event.Attach t g) reply.Ok refl refl (ap (λ (s : State). s.pages) h.1)
 step_flies old new (event.Mkdir path) reply.Ok h = same_pages old new _ reply.Ok refl refl (ap (λ (s : State). s.pages) h)
 step_flies old new (event.Rmdir g) reply.Ok h = quiet old new (event.Rmdir g) reply.Ok refl refl (in_transfer-removed old new g.0 h)
-step_flies old new (event.Set g what) reply.Ok h = same_pages old new _ reply.Ok refl refl (ap (λ (s : State). s.pages) h)
+step_flies old new (event.Set g what) reply.Ok h = same_pages old new _ reply.Ok refl refl (ap (λ (s : State). s.pages) (h ∙ setting-is old g.0 what))
 step_flies old new (event.Show what) (reply.Shown numbers) h = same_pages old new _ (reply.Shown numbers) refl refl (ap (λ (s : State). s.pages) h.1)
 step_flies old new (event.MergeMarks word bits) reply.Ok h = same_pages old new (event.MergeMarks word bits) reply.Ok refl refl (ap (λ (s : State). s.pages) h)
 step_flies old new what answer h = absurd h

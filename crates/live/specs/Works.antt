@@ -24,7 +24,7 @@ use Rattle.turns.specs.declared.turn.Want.{Want}
 use Rattle.turns.specs.declared.turn.Want.TheVariants as want
 use Rattle.turns.specs.declared.turn.Transition.{Transition}
 use Rattle.turns.specs.declared.turn.Transition.TheVariants.{Goes, Kills, Waits, Ends}
-use Rattle.turns.specs.Turns.{wants, Told, resumes_at, after_read, after_write, Judged, paths_of, judged_with, answer_by}
+use Rattle.turns.specs.Turns.{wants, Told, resumes_at, kill_answer, after_read, after_write, Judged, paths_of, judged_with, answer_by}
 use Rattle.turns.specs.Tickets.{holds}
 
 -- ---- one turn
@@ -66,7 +66,7 @@ pub record TurnMade (marks : Watermarks) (stage : Stage) (added : List Kept) (tr
 -- where a command goes on after a turn, and what the turn tells. (Excludes a busy that is answered, or that ends a command.)
 abbrev pub GoesOn : Actor → Transition → List Told_by → Stage → Type 0
 GoesOn who (Goes next) said stage = (said ≡ []) × (stage ≡ next)
-GoesOn who (Kills t on) said stage = (said ≡ answer_by who (answer.Kill t)) × (stage ≡ resumes_at on)
+GoesOn who (Kills kill on) said stage = (said ≡ answer_by who (kill_answer kill)) × (stage ≡ resumes_at on)
 GoesOn who (Waits on) said stage = (said ≡ []) × (stage ≡ resumes_at on)
 GoesOn who (Ends what) said stage = ⊥
 

@@ -236,10 +236,10 @@ impl<L: Ledger + Opened, D: SharedDevice> Live<L, D> {
                 None
             }
             Ok(Transition::Goes(next)) => Some(next),
-            Ok(Transition::Kills(task, resume)) => {
+            Ok(Transition::Kills(kill, resume)) => {
                 answers.push_reserved(Told {
                     actor,
-                    answer: Answer::Kill(task),
+                    answer: kill.answer(),
                 });
                 Some(resumes_at(resume))
             }

@@ -1,5 +1,7 @@
 pub mod Values
 pub mod TreeLemmas
+pub mod ChainLemmas
+pub mod KillGroupLemmas
 pub mod SlotLemmas
 pub mod TestLemmas
 pub mod FileLemmas

@@ -9,7 +9,7 @@ use Rattle.machine.specs.Pages.{is_number}
 use Rattle.machine.specs.Tasks.{PageTables, table_of, number_of_page, mapped_at, is_page, mappers_in, mappers, Shows, Copies, ShowsNothing}
 use Rattle.machine.proofs.Values.{never_some}
 use Rattle.machine.proofs.TreeLemmas.{eq_cases}
-use Rattle.machine.proofs.SlotLemmas.{one_if, sum_by-alike, sum_by-but_one, part-le-sum_by, parts-le-sum_by}
+use Rattle.machine.proofs.SlotLemmas.{one_if, sum_by-alike, sum_by-less, sum_by-but_one, part-le-sum_by, parts-le-sum_by}
 
 -- ---- one place
 
@@ -99,6 +99,14 @@ pub mappers-alike : (old new : PageTables) (p : ℕ) → ((t v : ℕ) → mapped
 mappers-alike old new p same =
     sum_by-alike (mappers_in p) [] refl old new
     (λ t. sum_by-alike (adds p) None refl (table_of old t) (table_of new t) (λ v. adds-shown new t v p ∙ ap (λ s. shown_once s p) (same t v) ∙ sym (adds-shown old t v p)))
+
+-- where each place shows what it showed, or nothing, no page has more mappers
+pub mappers-less : (old new : PageTables) (p : ℕ) → ((t v : ℕ) → (mapped_at new t v ≡ mapped_at old t v) ⊎ (mapped_at new t v ≡ None)) → mappers new p ≤ mappers old p
+mappers-less old new p less = sum_by-less (mappers_in p) [] refl old new (λ t. sum_by-less (adds p) None refl (table_of old t) (table_of new t) (λ v. by_case t v (less t v)))
+  where
+    by_case : (t v : ℕ) → (mapped_at new t v ≡ mapped_at old t v) ⊎ (mapped_at new t v ≡ None) → adds p (at (table_of new t) v) ≤ adds p (at (table_of old t) v)
+    by_case t v (inl same) = let now = adds-shown new t v p in let was = adds-shown old t v p in let shown = ap (λ s. shown_once s p) same in omega (arith, now, was, shown)
+    by_case t v (inr none) = let now = adds-shown new t v p in let nothing : shown_once (mapped_at new t v) p ≡ 0 = ap (λ s. shown_once s p) none in omega (arith, now, nothing)
 
 -- one place shows something else
 pub mappers-shows : (old new : PageTables) (t v p : ℕ) (to : Option ℕ) → Shows old new t v to → mappers new p + shown_once (mapped_at old t v) p ≡ mappers old p + shown_once to p

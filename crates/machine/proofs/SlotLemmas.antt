@@ -26,6 +26,25 @@ module _ {X : Type 0} (f : X → ℕ) (d : X) (none : f d ≡ 0) where
       let rest = sum_by-alike xs ys (λ j. same (suc j)) in
       omega (arith, more, more_y, here, rest)
 
+  -- tables of which each number adds at most what it adds in another have at most its sum
+  pub sum_by-less : (xs ys : List X) → ((j : ℕ) → f (get_or ys j d) ≤ f (get_or xs j d)) → sum_by f ys ≤ sum_by f xs
+  sum_by-less [] [] less = omega arith
+  sum_by-less [] (y ∷ ys) less =
+      let more = sum_by-cons f y ys in
+      let here : f y ≤ f d = less 0 in
+      let rest = sum_by-less [] ys (λ j. less (suc j)) in
+      omega (arith, more, here, none, rest)
+  sum_by-less (x ∷ xs) [] less =
+      let more = sum_by-cons f x xs in
+      let rest = sum_by-less xs [] (λ j. less (suc j)) in
+      omega (arith, more, rest)
+  sum_by-less (x ∷ xs) (y ∷ ys) less =
+      let more = sum_by-cons f x xs in
+      let more_y = sum_by-cons f y ys in
+      let here : f y ≤ f x = less 0 in
+      let rest = sum_by-less xs ys (λ j. less (suc j)) in
+      omega (arith, more, more_y, here, rest)
+
   -- all numbers but one add the same
   pub sum_by-but_one : (xs ys : List X) (k : ℕ) → ((j : ℕ) → j ≢ k → f (get_or ys j d) ≡ f (get_or xs j d)) → sum_by f ys + f (get_or xs k d) ≡ sum_by f xs + f (get_or ys k d)
   sum_by-but_one [] [] k others = refl

@@ -3,8 +3,8 @@ use Rattle.std.proofs.Common.{◌≡◌, ℕ, ◌&&◌, ◌||◌, Bool, true, fa
 use Rattle.std.proofs.lemmas.Bool.{and_parts}
 use Rattle.machine.specs.declared.record.EventCounts.{EventCounts}
 use Rattle.machine.specs.declared.record.Key.TheVariants as key
-use Rattle.machine.specs.Counts.{with_event}
-use Rattle.machine.specs.Events.{count_of, low_named, with_events}
+use Rattle.machine.specs.Counts.{with_event, count_of, with_events}
+use Rattle.machine.specs.Events.{low_named}
 use Rattle.machine.specs.Pages.{Page, is_anon, is_held}
 use Rattle.machine.specs.Reclaim.{is_unprotected, is_takeable, is_above_low, has_open, is_next, counted_at_take}
 use Rattle.machine.specs.State.{State, is_swap_free}

@@ -7,6 +7,8 @@ use Rattle.machine.specs.declared.amount.Amount.TheVariants.{Max, Pages}
 use Rattle.machine.specs.declared.control.ControlFile.{ControlFile}
 use Rattle.machine.specs.declared.control.ControlFile.TheVariants as file
 use Rattle.machine.specs.declared.record.Guard.TheVariants as guard
+use Rattle.machine.specs.declared.record.OomGroup.{OomGroup}
+use Rattle.machine.specs.declared.record.OomGroup.TheVariants.{Single, Whole}
 use Rattle.machine.specs.declared.record.EventCounts.{EventCounts}
 use Rattle.machine.specs.declared.record.MemoryStat.{MemoryStat}
 use Rattle.machine.specs.declared.reply.Shown.{Shown}
@@ -47,6 +49,15 @@ amount_of text =
     else if is_plain (digits_part text) && nat_lt (product text) (2 ^ 64) then Some (Pages (product text / page_size))
     else None
 
+-- ---- flags
+
+-- `0` or `1`, and no other text. (The kernel reads other spellings of these numbers too.)
+abbrev pub flag_of : List ℕ → Option OomGroup
+flag_of text =
+    if bytes_eq text (codes "0") then Some Single
+    else if bytes_eq text (codes "1") then Some Whole
+    else None
+
 -- ---- texts
 
 abbrev pub line : List ℕ → List ℕ
@@ -58,6 +69,10 @@ bytes_text pages = decimal (pages * page_size)
 abbrev pub amount_text : Amount → List ℕ
 amount_text Max = codes "max"
 amount_text (Pages n) = bytes_text n
+
+abbrev pub flag_text : OomGroup → List ℕ
+flag_text Single = codes "0"
+flag_text Whole = codes "1"
 
 -- a line of a key: its name, a space, and how often it was counted
 abbrev pub key_line : List ℕ → ℕ → List ℕ
@@ -77,10 +92,11 @@ events_text counts =
 abbrev pub stat_text : MemoryStat → List ℕ
 stat_text stat = key_line (codes "anon") (stat.anon * page_size) ++ key_line (codes "file") (stat.file * page_size)
 
--- what a control file says: bytes, or `max`, or a line for each key or type
+-- what a control file says: bytes, or `max`, or a flag, or a line for each key or type
 abbrev pub text_of : Shown → List ℕ
 text_of (shown.Pages n) = line (bytes_text n)
 text_of (shown.Amount amount) = line (amount_text amount)
+text_of (shown.Flag flag) = line (flag_text flag)
 text_of (shown.Events counts) = events_text counts
 text_of (shown.Stat stat) = stat_text stat
 
@@ -93,6 +109,7 @@ file_named name =
     else if bytes_eq name (codes "memory.max") then Some file.Max
     else if bytes_eq name (codes "memory.min") then Some (file.Guard guard.Min)
     else if bytes_eq name (codes "memory.low") then Some (file.Guard guard.Low)
+    else if bytes_eq name (codes "memory.oom.group") then Some file.OomGroup
     else if bytes_eq name (codes "memory.events") then Some file.Events
     else if bytes_eq name (codes "memory.events.local") then Some file.EventsLocal
     else if bytes_eq name (codes "memory.stat") then Some file.Stat
@@ -104,6 +121,7 @@ abbrev pub has_file : ℕ → ControlFile → Bool
 has_file g file.Current = not (g == 0)
 has_file g file.Max = not (g == 0)
 has_file g (file.Guard guard) = not (g == 0)
+has_file g file.OomGroup = not (g == 0)
 has_file g file.Events = not (g == 0)
 has_file g file.EventsLocal = not (g == 0)
 has_file g file.Stat = not (g == 0)

@@ -1,5 +1,5 @@
 -- Limits, charges against them (mm/page_counter.c: page_counter_try_charge), and event counts (admin-guide/cgroup-v2, memory.events).
-use Rattle.std.specs.Prelude.{ℕ, ◌+◌, ◌==◌, ◌&&◌, Bool, true, false, List, count_by, filter, find, sum_by, Option, Some, slice_index_or, slice_set}
+use Rattle.std.specs.Prelude.{ℕ, ◌+◌, ◌==◌, ◌&&◌, Bool, true, false, List, [], ◌∷◌, count_by, filter, find, sum_by, Option, Some, slice_index_or, slice_set}
 use Rattle.machine.specs.declared.amount.Amount.{Amount}
 use Rattle.machine.specs.declared.amount.Amount.TheVariants as amount
 use Rattle.machine.specs.declared.record.Guard.{Guard}
@@ -85,6 +85,14 @@ counts_by count = record { low = count Low; high = count High; max = count Max; 
 pub record Counted : Type 0 where
   pub group : ℕ
   pub key : Key
+
+abbrev pub count_of : ℕ → Key → Counted
+count_of g what = record { group = g; key = what }
+
+-- a table with these events counted as well
+abbrev pub with_events : List EventCounts → List Counted → List EventCounts
+with_events counted [] = counted
+with_events counted (c ∷ events) = with_events (with_event counted c.group c.key) events
 
 abbrev pub is_key : Key → Key → Bool
 is_key Low Low = true

@@ -8,15 +8,13 @@ use Rattle.machine.specs.declared.event.Event.TheVariants as event
 use Rattle.machine.specs.declared.reply.Reply.{Reply}
 use Rattle.machine.specs.declared.reply.Reply.TheVariants as reply
 use Rattle.machine.specs.declared.entry.Entry.{Entry}
-use Rattle.machine.specs.Counts.{Counted, no_counts, with_event}
+use Rattle.machine.specs.Counts.{Counted, count_of, no_counts, with_events}
 use Rattle.machine.specs.Tasks.{group_of_task}
+use Rattle.machine.specs.Victim.{counts_of_group_kill}
 use Rattle.machine.specs.State.{Opening, State, first_state}
 use Rattle.machine.specs.Pages.{Page, page_at, is_held, is_held_in}
 use Rattle.machine.specs.Reclaim.{has_open, target_of}
 use Rattle.machine.specs.Legal.{Extends}
-
-abbrev pub count_of : ℕ → Key → Counted
-count_of g what = record { group = g; key = what }
 
 -- the target of a reclaim, where a page was taken for it
 abbrev pub took_for : Event → Reply → Option ℕ
@@ -27,10 +25,11 @@ took_for (event.ReclaimOne g) reply.Dropped = Some g.0
 took_for what answer = None
 
 -- what an event that takes no page and is answered so counts, in this state: a refused charge `max` at the group without room; a kill `oom` at the group that wanted room and `oom_kill` at that of the
--- killed task; and a kill that finds no task `oom` alone. (Excludes a kill that is counted twice, or at the limit alone.)
+-- killed task; a kill of a group what it counts for each of its tasks and for the group; and a kill that finds no task `oom` alone. (Excludes a kill that is counted twice, or at the limit alone.)
 abbrev pub counts_named : State → Event → Reply → List Counted
 counts_named old (event.Access t place op) (reply.Over g) = count_of g.0 key.Max ∷ []
 counts_named old (event.Relieve cause) (reply.KilledTask t) = count_of (target_of cause) key.Oom ∷ count_of (group_of_task old.tasks t.0) key.OomKill ∷ []
+counts_named old (event.Relieve cause) (reply.KilledAll victim h tasks) = counts_of_group_kill old.tree old.tasks (target_of cause) h.0
 counts_named old (event.Relieve cause) reply.NoVictim = count_of (target_of cause) key.Oom ∷ []
 counts_named old what answer = []
 
@@ -61,11 +60,6 @@ AreCounted opening [] s events = (s ≡ first_state opening) × (events ≡ [])
 AreCounted opening (entry ∷ earlier) s events =
     (before : State) × (so_far : List Counted) × (more : List Counted) × AreCounted opening earlier before so_far × Extends before earlier entry s × Names before entry.event entry.reply s more
     × (events ≡ so_far ++ more)
-
--- a table with these events counted as well
-abbrev pub with_events : List EventCounts → List Counted → List EventCounts
-with_events counted [] = counted
-with_events counted (c ∷ events) = with_events (with_event counted c.group c.key) events
 
 -- a table of all groups after the event: a new group has nothing counted
 abbrev pub for_groups : List EventCounts → Event → List EventCounts

@@ -50,11 +50,16 @@ byte_text Shell byte = line (decimal byte)
 byte_text Control byte = line (decimal byte)
 byte_text Daemon byte = line (decimal byte)
 
+-- a kill of a group: its victim, and how many died with it, the victim counted
+abbrev pub group_kill_text : ℕ → ℕ → List ℕ
+group_kill_text victim tasks = codes "killed group " ++ (decimal victim ++ 32 ∷ line (decimal tasks))
+
 -- what an answer to the actor prints: a line, but nothing where a command is done, and a control file's text as it is
 abbrev pub answer_text : Actor → Answer → List ℕ
 answer_text who answer.Done = []
 answer_text who (answer.Text text) = text
 answer_text who (answer.Kill task) = line (codes "killed " ++ decimal task.0)
+answer_text who (answer.KillAll victim tasks) = group_kill_text victim.0 tasks
 answer_text who (answer.Byte byte) = byte_text who byte
 answer_text who (answer.Word said) = line (actor_text who ++ 32 ∷ word_text said)
 

@@ -72,6 +72,7 @@ abbrev pub show_refusal : State → Query → Option Refusal
 show_refusal s (query.Current g) = file_refusal s.tree g.0
 show_refusal s (query.Max g) = file_refusal s.tree g.0
 show_refusal s (query.Guard guard g) = file_refusal s.tree g.0
+show_refusal s (query.OomGroup g) = file_refusal s.tree g.0
 show_refusal s (query.Events g) = file_refusal s.tree g.0
 show_refusal s (query.EventsLocal g) = file_refusal s.tree g.0
 show_refusal s (query.Stat g) = file_refusal s.tree g.0

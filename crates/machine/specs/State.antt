@@ -13,6 +13,8 @@ use Rattle.machine.specs.Tasks.{Tasks, PageTables}
 use Rattle.machine.specs.declared.record.Guard.{Guard}
 use Rattle.machine.specs.declared.record.Guard.TheVariants as guard
 use Rattle.machine.specs.declared.record.Limits.{Limits}
+use Rattle.machine.specs.declared.record.OomGroup.{OomGroup}
+use Rattle.machine.specs.declared.record.OomGroup.TheVariants.{Single}
 use Rattle.machine.specs.declared.record.MemoryStat.{MemoryStat}
 use Rattle.machine.specs.declared.record.EventCounts.{EventCounts}
 use Rattle.machine.specs.Counts.{no_limits, no_counts, over}
@@ -70,11 +72,12 @@ is_sized config =
 abbrev pub is_config : Config → Bool
 is_config config = is_sized config && (are_files config.files && nat_le (blocks_of config) 131072)
 
--- the groups, their settings, the pages, the tasks and their page tables, and how often each event was counted at each group itself
+-- the groups, their limits and flags, the pages, the tasks and their page tables, and how often each event was counted at each group itself
 pub record State : Type 0 where
   pub opening : Opening
   pub tree : List Node
   pub limits : List Limits
+  pub flags : List OomGroup
   pub pages : Pages
   pub tasks : Tasks
   pub page_tables : PageTables
@@ -82,7 +85,7 @@ pub record State : Type 0 where
 
 -- the root alone
 abbrev pub first_state : Opening → State
-first_state opening = record { opening = opening; tree = root ∷ []; limits = no_limits ∷ []; pages = []; tasks = []; page_tables = []; counted = no_counts ∷ [] }
+first_state opening = record { opening = opening; tree = root ∷ []; limits = no_limits ∷ []; flags = Single ∷ []; pages = []; tasks = []; page_tables = []; counted = no_counts ∷ [] }
 
 -- how many pages with a frame are at or under a group
 abbrev pub usage : State → ℕ → ℕ

@@ -24,13 +24,14 @@ use Rattle.machine.specs.Names.{parent_path}
 use Rattle.machine.specs.Tree.{Node, node_at, find_group, without_group}
 use Rattle.machine.specs.Pages.{Content, Memory, OfFile, Residence, Held, Coming, Going, Away, Page, is_anon, in_transfer_at, page_at, home_block, is_frame_taken, is_swap_taken, is_ticket_taken}
 use Rattle.machine.specs.declared.record.Limits.{Limits}
+use Rattle.machine.specs.declared.record.OomGroup.TheVariants.{Single}
 use Rattle.machine.specs.declared.record.EventCounts.{EventCounts}
-use Rattle.machine.specs.Counts.{no_limits, limits_at, guard_of, with_guard, no_counts, with_event, local, total, counts_by}
-use Rattle.machine.specs.Tasks.{PageTables, task_at, SetsTask, group_of_task, mappers, Shows, Copies, ShowsNothing}
+use Rattle.machine.specs.Counts.{no_limits, limits_at, guard_of, with_guard, no_counts, with_event, with_events, local, total, counts_by}
+use Rattle.machine.specs.Tasks.{PageTables, mapped_at, task_at, task_of, SetsTask, group_of_task, mappers, Shows, Copies, ShowsNothing}
 use Rattle.machine.specs.State.{State, page_numbers, usage, over_in, is_frame_free, effective_in, stat_of}
 use Rattle.machine.specs.Access.{Meeting, Unmapped, Hits, Transferring, NeedsPage, NeedsCopy, NeedsSwapIn, NeedsRead, Dangling, meets}
 use Rattle.machine.specs.Reclaim.{is_next, counted_at_take, has_takeable, has_transfer, stands, target_of}
-use Rattle.machine.specs.Victim.{IsVictim}
+use Rattle.machine.specs.Victim.{flag_at, is_candidate, IsVictim, kill_group_of, killed_with, counts_of_group_kill}
 
 -- the reply, and nothing changes
 abbrev pub Only : State → Reply → Reply → State → Type 0
@@ -190,12 +191,19 @@ abbrev pub still : PageTables → ℕ → Option Page → Option Page
 still tables p None = None
 still tables p (Some page) = if is_anon page.content && ((mappers tables p == 0) && not (in_transfer_at page.residence)) then None else Some page
 
--- the task ends: its page table shows nothing any more, and the pages that nothing maps go. `counted` is what stands counted then
-pub record EndsTask (old : State) (t : ℕ) (life : Life) (counted : List EventCounts) (new : State) : Type 0 where
-  pub shown : ShowsNothing old.page_tables new.page_tables t
+-- the tasks of which the test holds end with this life, each in its group: they show nothing any more, and the pages that nothing maps go. Every other task stays as it was, and shows
+-- what it did. `counted` is what stands counted then. (Excludes a page that goes though a task outside still shows it.)
+pub record EndsTasks (old : State) (is_gone : ℕ → Bool) (life : Life) (counted : List EventCounts) (new : State) : Type 0 where
+  pub none : (u v : ℕ) → is_gone u ≡ true → mapped_at new.page_tables u v ≡ None
+  pub others : (u v : ℕ) → is_gone u ≡ false → mapped_at new.page_tables u v ≡ mapped_at old.page_tables u v
   pub pages : (p : ℕ) → page_at new.pages p ≡ still new.page_tables p (page_at old.pages p)
-  pub ends : SetsTask old.tasks t (group_of_task old.tasks t) life new.tasks
+  pub ends : (u : ℕ) → is_gone u ≡ true → task_at new.tasks u ≡ Some (task_of (group_of_task old.tasks u) life)
+  pub stays : (u : ℕ) → is_gone u ≡ false → task_at new.tasks u ≡ task_at old.tasks u
   pub state : new ≡ record old { pages = new.pages; tasks = new.tasks; page_tables = new.page_tables; counted = counted }
+
+-- one task ends
+abbrev pub EndsTask : State → ℕ → Life → List EventCounts → State → Type 0
+EndsTask old t life counted new = EndsTasks old (λ u. u == t) life counted new
 
 -- a task ends by itself, and nothing is counted for it
 abbrev pub Exits : State → ℕ → Reply → State → Type 0
@@ -219,11 +227,18 @@ pub record Frees (old : State) (t v : ℕ) (answer : Reply) (new : State) : Type
 abbrev pub Attaches : State → ℕ → ℕ → State → Type 0
 Attaches old t g new = SetsTask old.tasks t g Live new.tasks × (new ≡ record old { tasks = new.tasks })
 
--- nothing can be reclaimed under the limit: its worst task is killed, or there is none. (Excludes a kill at the first refused charge: Takes and Wait come before.)
+-- nothing can be reclaimed under the limit: its worst task is killed; with it, where a group from its own up to the limit has the flag, all tasks of the highest such group, at once; or there is
+-- nobody. (Excludes a kill at the first refused charge: Takes and Wait come before. And a group with the flag whose tasks are killed one by one, some and not all, or with some outside it.)
 abbrev pub KillStep : State → ℕ → Reply → State → Type 0
 KillStep old limit (reply.KilledTask t) new =
     IsVictim old.tree old.tasks old.page_tables limit (Some t.0)
+    × (kill_group_of old.tree old.flags old.tasks limit t.0 ≡ None)
     × EndsTask old t.0 Killed (with_event (with_event old.counted limit key.Oom) (group_of_task old.tasks t.0) key.OomKill) new
+KillStep old limit (reply.KilledAll victim h tasks) new =
+    IsVictim old.tree old.tasks old.page_tables limit (Some victim.0)
+    × (kill_group_of old.tree old.flags old.tasks limit victim.0 ≡ Some h.0)
+    × (tasks ≡ killed_with old.tree old.tasks h.0)
+    × EndsTasks old (is_candidate old.tree old.tasks h.0) Killed (with_events old.counted (counts_of_group_kill old.tree old.tasks limit h.0)) new
 KillStep old limit reply.NoVictim new =
     IsVictim old.tree old.tasks old.page_tables limit None × (new ≡ record old { counted = with_event old.counted limit key.Oom })
 KillStep old limit answer new = ⊥
@@ -279,9 +294,15 @@ pub record Removes (old : State) (g : ℕ) (new : State) : Type 0 where
   pub pages : (p : ℕ) → page_at new.pages p ≡ option_map (regrouped g parent) (page_at old.pages p)
   pub state : new ≡ record old { tree = without_group old.tree g; pages = new.pages }
 
-abbrev pub with_setting : Limits → Setting → Limits
-with_setting limits (setting.Max amount) = record limits { max = amount }
-with_setting limits (setting.Guard guard amount) = with_guard limits guard amount
+-- other limits for a group
+abbrev pub with_limits : State → ℕ → Limits → State
+with_limits s g limits = record s { limits = slice_set s.limits g limits }
+
+-- another value for one setting of a group
+abbrev pub with_setting : State → ℕ → Setting → State
+with_setting s g (setting.Max amount) = with_limits s g (record (limits_at s.limits g) { max = amount })
+with_setting s g (setting.Guard guard amount) = with_limits s g (with_guard (limits_at s.limits g) guard amount)
+with_setting s g (setting.OomGroup flag) = record s { flags = slice_set s.flags g flag }
 
 -- ---- what is shown
 
@@ -289,6 +310,7 @@ abbrev pub shown_of : State → Query → Shown
 shown_of s (query.Current g) = shown.Pages (usage s g.0)
 shown_of s (query.Max g) = shown.Amount (limits_at s.limits g.0).max
 shown_of s (query.Guard guard g) = shown.Amount (guard_of guard (limits_at s.limits g.0))
+shown_of s (query.OomGroup g) = shown.Flag (flag_at s.flags g.0)
 shown_of s (query.Events g) = shown.Events (counts_by (total s.tree s.counted g.0))
 shown_of s (query.EventsLocal g) = shown.Events (counts_by (local s.counted g.0))
 shown_of s (query.Stat g) = shown.Stat (stat_of s g.0)
@@ -311,9 +333,9 @@ Step old (event.Fork t child) answer new = TaskStep old (task_at old.tasks t.0) 
 Step old (event.Exit t) answer new = TaskStep old (task_at old.tasks t.0) (λ task. Exits old t.0 answer new) answer new
 Step old (event.Free t v) answer new = TaskStep old (task_at old.tasks t.0) (λ task. Frees old t.0 v answer new) answer new
 Step old (event.Attach t g) reply.Ok new = Attaches old t.0 g.0 new
-Step old (event.Mkdir path) reply.Ok new = new ≡ record old { tree = old.tree ++ new_node old.tree path ∷ []; limits = old.limits ++ no_limits ∷ []; counted = old.counted ++ no_counts ∷ [] }
+Step old (event.Mkdir path) reply.Ok new = new ≡ record old { tree = old.tree ++ new_node old.tree path ∷ []; limits = old.limits ++ no_limits ∷ []; flags = old.flags ++ Single ∷ []; counted = old.counted ++ no_counts ∷ [] }
 Step old (event.Rmdir g) reply.Ok new = Removes old g.0 new
-Step old (event.Set g what) reply.Ok new = new ≡ record old { limits = slice_set old.limits g.0 (with_setting (limits_at old.limits g.0) what) }
+Step old (event.Set g what) reply.Ok new = new ≡ with_setting old g.0 what
 Step old (event.Show what) (reply.Shown numbers) new = (numbers ≡ shown_of old what) × (new ≡ old)
 Step old (event.MergeMarks word bits) reply.Ok new = new ≡ old
 -- no other reply is given

@@ -164,8 +164,11 @@ pub enum Answer {
     Text(Text),
     /// The command is done, and prints nothing.
     Done,
-    /// A kill, at the moment it is made. The command goes on.
+    /// A kill of one task, at the moment it is made. The command goes on.
     Kill(TaskId),
+    /// A kill of all tasks of a group and below it, so many with the victim, at the moment it is made. The
+    /// command goes on.
+    KillAll { victim: TaskId, tasks: u32 },
     Word(Word),
 }
 

@@ -12,6 +12,8 @@ pub enum ControlFile {
     Max,
     /// `memory.min` or `memory.low`, which is read and written.
     Guard(Guard),
+    /// `memory.oom.group`, which is read and written.
+    OomGroup,
     /// `memory.events`, which is read: what was counted at the group and below it.
     Events,
     /// `memory.events.local`, which is read: what was counted at the group itself.

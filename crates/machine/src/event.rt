@@ -4,7 +4,7 @@
 use crate::amount::Amount;
 use crate::bytes::PageBytes;
 use crate::id::{GroupId, TaskId, TicketId};
-use crate::record::Guard;
+use crate::record::{Guard, OomGroup};
 use crate::text::Text;
 
 /// Where an access goes.
@@ -42,6 +42,8 @@ pub enum Setting {
     Max(Amount),
     /// `memory.min` or `memory.low`
     Guard(Guard, Amount),
+    /// `memory.oom.group`
+    OomGroup(OomGroup),
 }
 
 /// Whose numbers are asked for: those of one control file of one group, or a group's protection.
@@ -53,6 +55,8 @@ pub enum Query {
     Max(GroupId),
     /// `memory.min` or `memory.low`
     Guard(Guard, GroupId),
+    /// `memory.oom.group`
+    OomGroup(GroupId),
     /// `memory.events`
     Events(GroupId),
     /// `memory.events.local`

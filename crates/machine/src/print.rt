@@ -2,9 +2,10 @@
 
 ghost use Rattle.std.specs.Prelude.{◌≡◌, ◌++◌, OnOk};
 ghost use Rattle.std.specs.String.{string_bytes};
-ghost use Rattle.machine.specs.Printed.{actor_text, answer_text, byte_text, printed};
+ghost use Rattle.machine.specs.Printed.{actor_text, answer_text, byte_text, group_kill_text, printed};
 
 use crate::command::{Actor, Answer, Reply, Word};
+use crate::id::TaskId;
 use std::alloc::AllocError;
 use std::fmt;
 
@@ -50,6 +51,13 @@ fn add_byte(text: &mut String, actor: Actor, byte: u8) -> Result<(), AllocError>
     }
 }
 
+/// Adds the line of a kill of a group, with its victim and how many died.
+fn add_group_kill(text: &mut String, victim: TaskId, tasks: u32) -> Result<(), AllocError>
+    ensures { OnOk result (string_bytes text.new ≡ string_bytes text.old ++ group_kill_text victim.0 tasks) }
+{
+    writeln!(text, "killed group {} {tasks}", victim.0)
+}
+
 /// Adds the line of a word to the actor.
 fn add_word(text: &mut String, actor: Actor, word: Word) -> Result<(), AllocError>
     ensures { OnOk result (string_bytes text.new ≡ string_bytes text.old ++ answer_text actor (Answer.Word word)) }
@@ -61,7 +69,7 @@ fn add_word(text: &mut String, actor: Actor, word: Word) -> Result<(), AllocErro
 impl Reply {
     /// Adds what the answer prints: a task's byte or word behind the task's number, a control file's
     /// text as it is, the word of the shell or of control behind `error`, that of the daemon behind
-    /// `daemon`, a kill as `killed N`.
+    /// `daemon`, a kill as `killed N`, that of a group as `killed group N TASKS`.
     /// `Done` prints nothing.
     pub fn print(&self, text: &mut String) -> Result<(), AllocError>
         ensures { OnOk result (string_bytes text.new ≡ string_bytes text.old ++ printed self.now) }
@@ -70,6 +78,7 @@ impl Reply {
             Answer::Done => Ok(()),
             Answer::Text(said) => text.push_str(said.as_str()),
             Answer::Kill(task) => writeln!(text, "killed {}", task.0),
+            Answer::KillAll { victim, tasks } => add_group_kill(text, *victim, *tasks),
             Answer::Byte(byte) => add_byte(text, self.actor, *byte),
             Answer::Word(word) => add_word(text, self.actor, *word),
         }

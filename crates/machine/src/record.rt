@@ -84,7 +84,17 @@ pub enum Guard {
     Low,
 }
 
-/// The settings of a group.
+/// Whether the killer takes a group as one (kernel: `oom_group` of a `struct mem_cgroup`).
+#[derive(Clone, Copy, Debug, Default, PartialEq, Eq)]
+pub enum OomGroup {
+    /// `0`: its tasks are killed one at a time.
+    #[default]
+    Single,
+    /// `1`: where one of its tasks is to be killed, all of them are, and those of the groups below it.
+    Whole,
+}
+
+/// The limits of a group.
 #[derive(Clone, Copy, Debug, PartialEq, Eq)]
 pub struct Limits {
     /// `memory.max`: no charge passes it.

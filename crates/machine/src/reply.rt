@@ -2,14 +2,15 @@
 
 use crate::amount::Amount;
 use crate::id::{FrameId, GroupId, TaskId, TicketId};
-use crate::record::{EventCounts, MemoryStat};
+use crate::record::{EventCounts, MemoryStat, OomGroup};
 use crate::refusal::Refusal;
 
-/// What a control file shows: pages, an amount, how often events were counted, or pages by type.
+/// What a control file shows: pages, an amount, a flag, how often events were counted, or pages by type.
 #[derive(Clone, Copy, Debug, PartialEq, Eq)]
 pub enum Shown {
     Pages(u64),
     Amount(Amount),
+    Flag(OomGroup),
     Events(EventCounts),
     Stat(MemoryStat),
 }
@@ -18,7 +19,10 @@ pub enum Shown {
 #[derive(Clone, Copy, Debug, PartialEq, Eq)]
 pub enum Reply {
     /// The byte read or written, and the frame that was hit.
-    Done { byte: u8, hit: Option<FrameId> },
+    Done {
+        byte: u8,
+        hit: Option<FrameId>,
+    },
     /// The page is being read in, under this ticket.
     Fetch(TicketId),
     /// No charge: this is the lowest group without room.
@@ -40,8 +44,15 @@ pub enum Reply {
     Wait,
     /// There is no page to be taken, and none in transfer.
     Nothing,
-    /// Relief killed this task.
+    /// Relief killed this task, and it alone.
     KilledTask(TaskId),
+    /// Relief chose this victim, and killed all tasks of this group and of those below it: so many, the
+    /// victim counted.
+    KilledAll {
+        victim: TaskId,
+        group: GroupId,
+        tasks: u32,
+    },
     /// Relief found nobody to kill.
     NoVictim,
     Shown(Shown),

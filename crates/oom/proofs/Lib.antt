@@ -1,1 +1,2 @@
 pub mod WorstLemmas
+pub mod ClimbLemmas

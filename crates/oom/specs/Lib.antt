@@ -1,1 +1,3 @@
 pub mod Worst
+pub mod Chosen
+pub mod Climb

@@ -84,7 +84,7 @@ module _ (old new : StateOf) (drops : DropsPages old new) where
 
 -- ---- one place after another
 
-drops-then : (old mid new : StateOf) → AreGenerations old.order.held → DropsPages old mid → DropsPages mid new → ((p : ℕ) → mappers new.tables.page_tables p ≤ mappers mid.tables.page_tables p) → DropsPages old new
+pub drops-then : (old mid new : StateOf) → AreGenerations old.order.held → DropsPages old mid → DropsPages mid new → ((p : ℕ) → mappers new.tables.page_tables p ≤ mappers mid.tables.page_tables p) → DropsPages old new
 drops-then old mid new sound first second less =
     record {
       pages = λ p. second.pages p ∙ ap (still new.tables.page_tables p) (first.pages p) ∙ still-still mid.tables.page_tables new.tables.page_tables p (page_at old.tables.pages p) (less p);
@@ -95,19 +95,24 @@ drops-then old mid new sound first second less =
       cursors = second.cursors ∙ first.cursors;
     }
 
+-- nothing goes where nothing comes to be unmapped
+pub drops-none : (s : StateOf) → AreMapped s.tables.pages s.tables.page_tables → ListsHeld s.tables.pages s.order.held → DropsPages s s
+drops-none s mapped listed =
+    record {
+      pages = λ p. sym (stays_settled s.tables.page_tables p (page_at s.tables.pages p) (mapped.least p));
+      bytes = λ p k there. refl;
+      flights = refl;
+      held = goes-still Youngest s.tables.pages s.tables.pages s.order.held listed refl;
+      cursors = refl;
+    }
+
 pub unmaps-none : (s : StateOf) (t : ℕ) → AreMapped s.tables.pages s.tables.page_tables → ListsHeld s.tables.pages s.order.held → UnmapsBelow s s t 0
 unmaps-none s t mapped listed =
     record {
       below = λ v lt. absurd (omega (arith, lt));
       above = λ v le. refl;
       others = λ u v other. refl;
-      drops = record {
-        pages = λ p. sym (stays_settled s.tables.page_tables p (page_at s.tables.pages p) (mapped.least p));
-        bytes = λ p k there. refl;
-        flights = refl;
-        held = goes-still Youngest s.tables.pages s.tables.pages s.order.held listed refl;
-        cursors = refl;
-      };
+      drops = drops-none s mapped listed;
       tables = refl;
     }
 

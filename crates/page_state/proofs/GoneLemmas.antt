@@ -125,6 +125,7 @@ module _ (s : Inside) (is : IsJoined s) (g parent : ℕ) (may : MayGo (joined_of
             });
         homes = λ t alive. ap (λ (ns : List Node). is_live ns (group_of_task s.spaces.tasks t)) fewer
             ∙ ap (λ (n : Node). n.live) (without-other s.tree g (group_of_task s.spaces.tasks t) (elsewhere s.spaces.tasks g t may.taskless alive)) ∙ is.homes t alive;
+        flagged = is.flagged ∙ sym (ap length fewer ∙ length-set s.tree g _);
         cursors = ap length served ∙ length-set s.cursors.cursors g None ∙ is.cursors ∙ sym (ap length fewer ∙ length-set s.tree g _);
         populated = is.populated ∙ sym (ap length fewer ∙ length-set s.tree g _);
       }

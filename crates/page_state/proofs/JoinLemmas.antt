@@ -1,6 +1,7 @@
 -- Constructors of the joined record: what each kind of change leaves of the parts' agreement.
 use Rattle.std.proofs.Common.{◌≡◌, ◌∙◌, ◌+◌, ◌<◌, ◌++◌, ◌∷◌, [], ℕ, true, false, List, length, Some, None, refl, sym, ap, subst, arith}
 use Rattle.std.specs.Prelude.{nat_lt}
+use Rattle.machine.specs.declared.record.OomGroup.TheVariants.{Single}
 use Rattle.machine.specs.Tree.{Node, is_live, find_group}
 use Rattle.machine.specs.Names.{parent_path}
 use Rattle.machine.specs.Pages.{Pages, used_frames, charged}
@@ -11,6 +12,7 @@ use Rattle.machine.specs.Tasks.{lives, group_of_task}
 use Rattle.machine.specs.Step.{new_node}
 use Rattle.machine.proofs.CursorLemmas.{cursors-push}
 use Rattle.files.specs.Files.{FilesOf}
+use Rattle.group_tree.specs.Flags.{FlagsOf}
 use Rattle.group_tree.specs.Kin.{AreKin}
 use Rattle.group_tree.specs.Lineages.{bare, IsLineage}
 use Rattle.group_tree.proofs.LineageLemmas.{live-within}
@@ -50,6 +52,7 @@ joined-pages s is h cursors spaces agree stays mapped numbers groups homes numbe
       numbers = numbers ∙ is.numbers ∙ sym stays.numbers;
       homes = homes;
       page_numbers = stays.numbers ∙ is.page_numbers;
+      flagged = is.flagged;
       cursors = numbered ∙ is.cursors;
       populated = groups ∙ is.populated;
     }
@@ -70,17 +73,18 @@ joined-tasks s is spaces mapped numbers groups homes =
       numbers = numbers ∙ is.numbers;
       homes = homes;
       page_numbers = is.page_numbers;
+      flagged = is.flagged;
       cursors = is.cursors;
       populated = groups ∙ is.populated;
     }
 
 -- a group more, below one that is there
 pub joined-group : (s : Inside) → IsJoined s → (path : List ℕ) (parent : ℕ) → find_group s.tree (parent_path path) ≡ Some parent
-    → (tree : List Node) (h : Parts) (cursors : CursorsOf) (events : EventTable) (room : ℕ) → tree ≡ s.tree ++ new_node s.tree path ∷ []
+    → (tree : List Node) (flags : FlagsOf) (h : Parts) (cursors : CursorsOf) (events : EventTable) (room : ℕ) → tree ≡ s.tree ++ new_node s.tree path ∷ [] → flags.flags ≡ s.flags.flags ++ Single ∷ []
     → PartsAgree h → h.counters.tree ≡ s.parts.counters.tree ++ bare (Some parent) ∷ [] → events.tree ≡ s.events.tree ++ bare (Some parent) ∷ []
     → h.pages.pages ≡ s.parts.pages.pages → h.pool.frames ≡ s.parts.pool.frames → h.slots.blocks ≡ s.parts.slots.blocks → h.pages.numbers ≡ s.parts.pages.numbers → h.pages.files ≡ s.parts.pages.files
-    → cursors.cursors ≡ s.cursors.cursors ++ None ∷ [] → IsJoined (record s { tree = tree; parts = h; cursors = cursors; events = events; spaces = record (s.spaces) { groups = s.spaces.groups + 1; room = room } })
-joined-group s is path parent found tree h cursors events room more agree kin counted pages frames swap numbers files numbered =
+    → cursors.cursors ≡ s.cursors.cursors ++ None ∷ [] → IsJoined (record s { tree = tree; flags = flags; parts = h; cursors = cursors; events = events; spaces = record (s.spaces) { groups = s.spaces.groups + 1; room = room } })
+joined-group s is path parent found tree flags h cursors events room more flags_more agree kin counted pages frames swap numbers files numbered =
     record {
       sized = is.sized;
       agree = agree;
@@ -93,6 +97,7 @@ joined-group s is path parent found tree h cursors events room more agree kin co
       counted_kin = rw (counted, more) (kin-push s.events.tree s.tree parent (new_node s.tree path) is.counted_kin found refl);
       mapped = subst (λ (ps : Pages). AreMapped ps s.spaces.page_tables) (sym pages) is.mapped;
       homes = λ t alive. rw more (live-push s.tree (new_node s.tree path) (group_of_task s.spaces.tasks t) (is.homes t alive));
+      flagged = rw more (ap length flags_more ∙ length-append s.flags.flags (Single ∷ []) ∙ ap (λ n. n + 1) is.flagged ∙ sym (length-append s.tree (new_node s.tree path ∷ [])));
       cursors = rw more (cursors-push s.tree (new_node s.tree path) s.cursors.cursors cursors.cursors is.cursors numbered);
       populated = rw more (let sized = is.populated in let longer = length-append s.tree (new_node s.tree path ∷ []) in omega (arith, sized, longer));
     }

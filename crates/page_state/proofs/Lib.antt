@@ -25,3 +25,4 @@ pub mod LeaveLemmas
 pub mod AccessLemmas
 pub mod StatLemmas
 pub mod MergeLemmas
+pub mod KillLemmas

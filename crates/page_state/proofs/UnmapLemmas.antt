@@ -1,13 +1,14 @@
 -- A place that comes to show nothing, in all joined parts.
-use Rattle.std.proofs.Common.{◌≡◌, ◌≢◌, inl, inr, ℕ, ◌==◌, ◌&&◌, not, Bool, true, false, cond, List, Option, Some, None, ne_eqb, refl, sym, ap, ◌∙◌, subst, arith}
+use Rattle.std.proofs.Common.{◌≡◌, ◌≢◌, inl, inr, ℕ, ◌==◌, ◌&&◌, not, Bool, true, false, cond, List, Option, Some, None, ne_eqb, eqb-true, eq-eqb, refl, sym, ap, ◌∙◌, subst, arith}
 use Rattle.std.specs.Prelude.{IsSome, is_some}
 use Rattle.machine.specs.Slots.{there_and}
 use Rattle.machine.specs.Tree.{is_live}
 use Rattle.machine.specs.Pages.{Page, page_at, is_anon, in_transfer_at, is_in_transfer}
 use Rattle.machine.specs.declared.record.Life.{Life}
-use Rattle.machine.specs.Tasks.{Tasks, PageTables, SetsTask, lives, group_of_task, mapped_at, mappers, Shows}
+use Rattle.machine.specs.Tasks.{Tasks, PageTables, SetsTask, task_at, task_of, lives, group_of_task, mapped_at, mappers, Shows}
 use Rattle.machine.specs.State.{State}
 use Rattle.machine.specs.Step.{still}
+use Rattle.machine.proofs.Values.{unlike}
 use Rattle.machine.proofs.TreeLemmas.{eq_cases}
 use Rattle.machine.proofs.SlotLemmas.{one_if}
 use Rattle.machine.proofs.MappingLemmas.{mappers-alike, mappers-shows, shown_once}
@@ -148,8 +149,10 @@ pub ends-unmapped : (old : StateOf) (s : Inside) (spaces : Space) (t : ℕ) (lif
     → ((u v : ℕ) → mapped_at spaces.page_tables u v ≡ mapped_at s.spaces.page_tables u v) → EndsTask old (joined_of (record s { spaces = spaces })) t life
 ends-unmapped old s spaces t life all ends same =
     record {
-      shown = record { none = λ v. same t v ∙ all.shown.none v; others = λ u v other. same u v ∙ all.shown.others u v other };
-      ends = subst (λ (ts : Tasks). SetsTask ts t (group_of_task ts t) life spaces.tasks) (ap (λ (st : State). st.tasks) all.tables) ends;
+      none = λ u v is. same u v ∙ ap (λ (x : ℕ). mapped_at s.spaces.page_tables x v) (eqb-true u t is) ∙ all.shown.none v;
+      others = λ u v not. same u v ∙ all.shown.others u v (differs u not);
+      ends = λ u is. let here = eqb-true u t is in ap (task_at spaces.tasks) here ∙ set.changed ∙ ap (λ (x : ℕ). Some (task_of (group_of_task old.tables.tasks x) life)) (sym here);
+      stays = λ u not. set.others u (differs u not);
       drops = record {
         pages = λ p. all.drops.pages p ∙ sym (still-alike s.spaces.page_tables spaces.page_tables p (page_at old.tables.pages p) (mappers-alike s.spaces.page_tables spaces.page_tables p same));
         bytes = all.drops.bytes;
@@ -159,3 +162,9 @@ ends-unmapped old s spaces t life all ends same =
       };
       tables = ap (λ (st : State). record st { tasks = spaces.tasks; page_tables = spaces.page_tables }) all.tables;
     }
+  where
+    set : SetsTask old.tables.tasks t (group_of_task old.tables.tasks t) life spaces.tasks
+    set = subst (λ (ts : Tasks). SetsTask ts t (group_of_task ts t) life spaces.tasks) (ap (λ (st : State). st.tasks) all.tables) ends
+
+    differs : (u : ℕ) → (u == t) ≡ false → u ≢ t
+    differs u not same = unlike (u == t) (eq-eqb u t same) not

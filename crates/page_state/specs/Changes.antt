@@ -1,21 +1,22 @@
 -- How the joined parts change: one record for each change, which is one of the machine's tables in all parts at once.
-use Rattle.std.specs.Prelude.{◌≡◌, ◌≢◌, ℕ, ◌+◌, ◌<◌, ◌≤◌, ◌==◌, ◌&&◌, if◌then◌else◌, Bool, false, true, List, [], ◌∷◌, ◌++◌, slice_index, slice_set, is_some, Option, Some, None, option_map}
+use Rattle.std.specs.Prelude.{◌≡◌, ◌≢◌, ℕ, ◌+◌, ◌<◌, ◌≤◌, ◌==◌, ◌&&◌, if◌then◌else◌, Bool, false, true, List, [], ◌∷◌, ◌++◌, slice_index, is_some, Option, Some, None, option_map}
 use Rattle.machine.specs.declared.record.Key.{Key}
 use Rattle.machine.specs.declared.record.Life.{Life}
 use Rattle.machine.specs.declared.record.Life.TheVariants.{Live}
-use Rattle.machine.specs.declared.record.Limits.{Limits}
+use Rattle.machine.specs.declared.record.OomGroup.TheVariants.{Single}
+use Rattle.machine.specs.declared.event.Setting.{Setting}
 use Rattle.machine.specs.Slots.{Changes}
 use Rattle.machine.specs.Tree.{is_live, node_at, without_group}
 use Rattle.machine.specs.Pages.{Content, Memory, OfFile, Held, Page, page_at, home_block, is_held_in}
 use Rattle.machine.specs.declared.event.Op.TheVariants.{Write}
-use Rattle.machine.specs.Counts.{no_limits, no_counts, with_event}
-use Rattle.machine.specs.Tasks.{PageTables, SetsTask, group_of_task, mapped_at, mappers, Shows, Copies, ShowsNothing}
+use Rattle.machine.specs.Counts.{Counted, no_limits, no_counts, with_event, with_events}
+use Rattle.machine.specs.Tasks.{PageTables, SetsTask, task_at, task_of, group_of_task, mapped_at, mappers, Shows, Copies, ShowsNothing}
 use Rattle.machine.specs.State.{Opening, State, page_numbers, over_in, is_frame_free}
 use Rattle.machine.specs.Access.{page_size}
 use Rattle.machine.specs.Reclaim.{is_next}
 use Rattle.machine.specs.Generations.{gens_at}
 use Rattle.machine.specs.Lists.{Generation, Youngest, entry_after, MergesMarks, GoesOn, TakesNext, AddsLists, RemovesLists}
-use Rattle.machine.specs.Step.{IsFreeFrame, IsFreeBlock, touched, still, in_frame, on_block, new_node, regrouped}
+use Rattle.machine.specs.Step.{IsFreeFrame, IsFreeBlock, touched, still, in_frame, on_block, new_node, regrouped, with_setting}
 use Rattle.pages.specs.declared.end.End.{End}
 use Rattle.pages.specs.declared.end.End.TheVariants.{InFrame, OnBlock}
 use Rattle.pages.specs.PagesOf.{byte_in, Label, labelled, of_file, HasResidence}
@@ -59,6 +60,10 @@ KeepsLists generation old new = GoesOn generation old.tables.pages old.order.hel
 -- an event is counted, and all else is as it was
 abbrev pub counts_event : StateOf → ℕ → Key → StateOf
 counts_event old g key = record old { tables = record (old.tables) { counted = with_event old.tables.counted g key } }
+
+-- and several events
+abbrev pub counts_events : StateOf → List Counted → StateOf
+counts_events old events = record old { tables = record (old.tables) { counted = with_events old.tables.counted events } }
 
 -- ---- pages
 
@@ -215,18 +220,24 @@ pub record UnmapsAll (old new : StateOf) (t : ℕ) : Type 0 where
   pub drops : DropsPages old new
   pub tables : new.tables ≡ record old.tables { pages = new.tables.pages; page_tables = new.tables.page_tables }
 
--- a task ends so: its virtual pages show nothing any more
-pub record EndsTask (old new : StateOf) (t : ℕ) (life : Life) : Type 0 where
-  pub shown : ShowsNothing old.tables.page_tables new.tables.page_tables t
-  pub ends : SetsTask old.tables.tasks t (group_of_task old.tables.tasks t) life new.tables.tasks
+-- the tasks of which the test holds end so: their virtual pages show nothing any more. Every other task stays, and shows what it showed
+pub record EndsTasks (old new : StateOf) (is_gone : ℕ → Bool) (life : Life) : Type 0 where
+  pub none : (u v : ℕ) → is_gone u ≡ true → mapped_at new.tables.page_tables u v ≡ None
+  pub others : (u v : ℕ) → is_gone u ≡ false → mapped_at new.tables.page_tables u v ≡ mapped_at old.tables.page_tables u v
+  pub ends : (u : ℕ) → is_gone u ≡ true → task_at new.tables.tasks u ≡ Some (task_of (group_of_task old.tables.tasks u) life)
+  pub stays : (u : ℕ) → is_gone u ≡ false → task_at new.tables.tasks u ≡ task_at old.tables.tasks u
   pub drops : DropsPages old new
   pub tables : new.tables ≡ record old.tables { pages = new.tables.pages; tasks = new.tables.tasks; page_tables = new.tables.page_tables }
 
+-- one task ends
+abbrev pub EndsTask : StateOf → StateOf → ℕ → Life → Type 0
+EndsTask old new t life = EndsTasks old new (λ u. u == t) life
+
 -- ---- groups
 
--- a group of this path more, without limits and without a page, for which as a target no group was served
+-- a group of this path more, without limits, without the flag and without a page, for which as a target no group was served
 pub record AddsGroup (old new : StateOf) (path : List ℕ) : Type 0 where
-  pub tables : new.tables ≡ record old.tables { tree = old.tables.tree ++ new_node old.tables.tree path ∷ []; limits = old.tables.limits ++ no_limits ∷ []; counted = old.tables.counted ++ no_counts ∷ [] }
+  pub tables : new.tables ≡ record old.tables { tree = old.tables.tree ++ new_node old.tables.tree path ∷ []; limits = old.tables.limits ++ no_limits ∷ []; flags = old.tables.flags ++ Single ∷ []; counted = old.tables.counted ++ no_counts ∷ [] }
   pub order : AddsLists old.order new.order
   pub bytes : new.bytes ≡ old.bytes
   pub flights : new.flights ≡ old.flights
@@ -241,6 +252,6 @@ pub record RemovesGroup (old new : StateOf) (g : ℕ) : Type 0 where
   pub bytes : (p k : ℕ) → byte_in new.bytes p k ≡ byte_in old.bytes p k
   pub flights : new.flights ≡ old.flights
 
--- other limits for a group
-abbrev pub sets_limits : StateOf → ℕ → Limits → StateOf
-sets_limits old g limits = record old { tables = record (old.tables) { limits = slice_set old.tables.limits g limits } }
+-- another value for one setting of a group
+abbrev pub sets_in : StateOf → ℕ → Setting → StateOf
+sets_in old g setting = record old { tables = with_setting old.tables g setting }

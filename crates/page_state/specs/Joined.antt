@@ -16,6 +16,7 @@ joined_of s =
         opening = opening_of s.config;
         tree = s.tree;
         limits = s.parts.counters.limits;
+        flags = s.flags.flags;
         pages = s.parts.pages.pages;
         tasks = s.spaces.tasks;
         page_tables = s.spaces.page_tables;
@@ -41,7 +42,9 @@ pub record IsJoined (s : Inside) : Type 0 where
   pub numbers : s.spaces.numbers ≡ s.parts.pages.numbers
   -- the group of a live task is there
   pub homes : (t : ℕ) → lives s.spaces.tasks t ≡ true → is_live s.tree (group_of_task s.spaces.tasks t) ≡ true
-  -- each group has its cursor
+  -- each group has its flag
+  pub flagged : length s.flags.flags ≡ length s.tree
+  -- and its cursor
   pub cursors : length s.cursors.cursors ≡ length s.tree
   -- and its number of live tasks
   pub populated : s.spaces.groups ≡ length s.tree

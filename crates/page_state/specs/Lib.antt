@@ -10,3 +10,4 @@ pub mod States
 pub mod Changes
 pub mod Joined
 pub mod Merging
+pub mod Kills

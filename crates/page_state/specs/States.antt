@@ -1,5 +1,5 @@
 -- What a contract sees of the joined parts: the machine's tables, the held pages in their lists, the bytes of the pages, the transfers in flight.
-use Rattle.std.specs.Prelude.{ℕ, ◌+◌, ◌<◌, ◌^◌, List, Option, Some, None}
+use Rattle.std.specs.Prelude.{ℕ, ◌+◌, ◌<◌, ◌≤◌, ◌^◌, List, Option, Some, None}
 use Rattle.machine.specs.declared.record.Key.{Key}
 use Rattle.machine.specs.Tasks.{mapped_at}
 use Rattle.machine.specs.Counts.{total}
@@ -16,9 +16,13 @@ pub record StateOf : Type 0 where
   pub bytes : List (Option (List ℕ))
   pub flights : List (Option Flight)
 
--- each key was counted less often than a number of 64 bits holds
+-- no key was counted more often than so
+abbrev pub AreAtMost : State → ℕ → Type 0
+AreAtMost s n = (k : Key) → total s.tree s.counted 0 k ≤ n
+
+-- each key was counted so seldom that a number of 64 bits has room for one event more of each task, and for many such kills
 abbrev pub AreFew : State → Type 0
-AreFew s = (k : Key) → total s.tree s.counted 0 k < 18446744073709551615
+AreFew s = AreAtMost s (2 ^ 63)
 
 -- the number of each group's youngest generation is one that a search for a page may still raise
 abbrev pub AreYoung : HeldLists → Type 0

@@ -1,15 +1,14 @@
 //! Groups: made and set, what they show, and the events that are counted at them.
 
-ghost use Rattle.std.specs.Prelude.{◌≡◌, ◌≢◌, ◌<◌, Some, None, true, false, OnOk, OnErr, slice_set};
-ghost use Rattle.machine.specs.declared.record.Key.{Key as Key_of};
+ghost use Rattle.std.specs.Prelude.{◌≡◌, ◌≢◌, ℕ, ◌+◌, ◌<◌, Some, None, true, false, OnOk, OnErr};
 ghost use Rattle.machine.specs.Names.{parent_path};
 ghost use Rattle.machine.specs.Tree.{is_live, under, find_group};
-ghost use Rattle.machine.specs.Counts.{is_key, limits_at, counts_by, total, local};
+ghost use Rattle.machine.specs.Counts.{limits_at, counts_by, total, local};
 ghost use Rattle.machine.specs.Generations.{gens_at};
 ghost use Rattle.machine.specs.State.{usage, stat_of, effective_in};
-ghost use Rattle.machine.specs.Step.{with_setting};
 ghost use Rattle.machine.specs.Refusals.{mkdir_refusal, rmdir_refusal, bars_children};
-ghost use Rattle.page_state.specs.Changes.{counts_event, AddsGroup, RemovesGroup, sets_limits};
+ghost use Rattle.page_state.specs.States.{AreAtMost};
+ghost use Rattle.page_state.specs.Changes.{counts_event, AddsGroup, RemovesGroup, sets_in};
 
 use crate::joined::State;
 use crate::lookup::file_usage;
@@ -18,7 +17,6 @@ use machine::amount::Amount;
 use machine::event::Setting;
 use machine::id::GroupId;
 use machine::record::{EventCounts, Guard, Key, Limits, MemoryStat};
-use page_counter::Counters;
 use protection::Protection;
 use std::alloc::AllocError;
 
@@ -102,7 +100,7 @@ impl State {
         requires live { is_live self.old.tables.tree group.0 ≡ true }
         requires few { total self.old.tables.tree self.old.tables.counted 0 key < u64.MAX }
         ensures counts { self.new ≡ counts_event self.old group.0 key }
-        ensures others { (k : Key_of) → is_key key k ≡ false → total self.new.tables.tree self.new.tables.counted 0 k ≡ total self.old.tables.tree self.old.tables.counted 0 k }
+        ensures most { (n : ℕ) → AreAtMost self.old.tables n → AreAtMost self.new.tables (n + 1) }
     {
         self.events.are_counted();
         self.events.count(group, key);
@@ -111,9 +109,13 @@ impl State {
     /// Another value for a setting of the group. What is charged already stays.
     pub fn set(&mut self, group: GroupId, setting: Setting)
         requires { is_live self.old.tables.tree group.0 ≡ true }
-        ensures { self.new ≡ sets_limits self.old group.0 (with_setting (limits_at self.old.tables.limits group.0) setting) }
+        ensures { self.new ≡ sets_in self.old group.0 setting }
     {
-        set_in(&mut self.parts.counters, group, setting);
+        match setting {
+            Setting::Max(max) => self.parts.counters.set_max(group, max),
+            Setting::Guard(guard, amount) => self.parts.counters.set_guard(guard, group, amount),
+            Setting::OomGroup(flag) => self.flags.set_flag(group, flag),
+        }
     }
 
     /// A group of this path below its parent, which is there. Memory is asked for before anything changes:
@@ -126,11 +128,13 @@ impl State {
         ensures err { OnErr result (self.new ≡ self.old) }
     {
         self.parts.reserve_group()?;
+        self.flags.reserve()?;
         self.events.reserve()?;
         self.cursors.reserve()?;
         self.spaces.reserve_group()?;
         let group = self.tree.mkdir(path)?;
         self.parts.add_group(group, parent);
+        self.flags.add_reserved();
         self.events.add_reserved(group, parent);
         self.cursors.add_reserved();
         self.spaces.add_group();
@@ -160,19 +164,5 @@ impl State {
         self.events.remove(group);
         self.cursors.remove(group);
         self.tree.rmdir(group);
-    }
-}
-
-/// Another value for a setting of the group.
-fn set_in(counters: &mut Counters, group: GroupId, setting: Setting)
-    requires { is_live counters.old.tree group.0 ≡ true }
-    ensures limits { counters.new.limits ≡ slice_set counters.old.limits group.0 (with_setting (limits_at counters.old.limits group.0) setting) }
-    ensures tree { counters.new.tree ≡ counters.old.tree }
-    ensures usage { counters.new.usage ≡ counters.old.usage }
-    ensures room { counters.new.room ≡ counters.old.room }
-{
-    match setting {
-        Setting::Max(max) => counters.set_max(group, max),
-        Setting::Guard(guard, amount) => counters.set_guard(guard, group, amount),
     }
 }

@@ -13,7 +13,7 @@ ghost use Rattle.page_state.specs.Mapped.{AreMapped};
 
 use crate::parts::Parts;
 use files::Files;
-use group_tree::Tree;
+use group_tree::{Flags, Tree};
 use machine::config::{Config, Watermarks};
 use memory_events::Events;
 use pages::Pages;
@@ -22,12 +22,13 @@ use spaces::Spaces;
 use std::alloc::{AllocError, Global};
 use std::marker::Model;
 
-/// The groups with their settings, the pages with what they own, the tasks with what they map, and
+/// The groups with their limits and flags, the pages with what they own, the tasks with what they map, and
 /// the counts of events. It must be spent, by [`State::close`].
 #[must_use]
 pub struct State {
     pub(crate) config: Config,
     pub(crate) tree: Tree,
+    pub(crate) flags: Flags,
     pub(crate) parts: Parts,
     pub(crate) cursors: Cursors,
     pub(crate) events: Events,
@@ -56,6 +57,7 @@ impl State {
         ensures flights { IfOk result (λ s. s.flights ≡ []) }
     {
         let tree = Tree::open(alloc)?;
+        let flags = Flags::new(alloc)?;
         let events = Events::new(alloc)?;
         let cursors = Cursors::new(alloc)?;
         let files = Files::open(alloc, &config.files, config.swap)?;
@@ -67,6 +69,7 @@ impl State {
         Ok(State {
             config,
             tree,
+            flags,
             parts,
             cursors,
             events,
@@ -79,6 +82,7 @@ impl State {
         let State {
             config: _,
             tree: _,
+            flags: _,
             parts,
             cursors: _,
             events: _,
@@ -92,6 +96,13 @@ impl State {
         ensures { result.now ≡ self.now.tables.tree }
     {
         &self.tree
+    }
+
+    /// Which groups the killer takes as one.
+    pub fn flags(&self) -> &Flags
+        ensures { result.now.flags ≡ self.now.tables.flags }
+    {
+        &self.flags
     }
 
     /// How many frames are free.

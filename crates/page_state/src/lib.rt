@@ -1,7 +1,7 @@
 //! The parts of a machine joined: each call makes one change of the machine's tables, in all parts at
 //! once, so that between calls the parts agree.
 //!
-//! Below it stand the parts, each seen as the machine's table that it keeps: the groups, their limits and
+//! Below it stand the parts, each seen as the machine's table that it keeps: the groups, their limits, flags and
 //! counts, the pages with their bytes, the files that some are of, the generation lists of those in frames,
 //! the tasks with what they map, the frames and swap slots that are free, the transfers in flight, and how
 //! often events were counted.
@@ -14,6 +14,7 @@ mod accesses;
 mod endings;
 mod groups;
 mod joined;
+mod kills;
 mod lookup;
 mod merging;
 mod parts;

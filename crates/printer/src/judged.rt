@@ -11,7 +11,12 @@ pub fn is_byte(answer: &Answer) -> bool
 {
     match answer {
         Answer::Byte(_) => true,
-        Answer::Text(_) | Answer::Done | Answer::Kill(_) | Answer::Word(_) => false,
+        Answer::Text(_) | Answer::Done | Answer::Word(_) => false,
+        Answer::Kill(_)
+        | Answer::KillAll {
+            victim: _,
+            tasks: _,
+        } => false,
     }
 }
 

@@ -2,10 +2,45 @@
 
 use book::Victim;
 use charts::Size;
+use driver::Answer;
 use machine::amount::Amount;
 use machine::event::Cause;
+use machine::id::TaskId;
 use std::fmt;
 use std::fmt::{Formatter, Write};
+
+/// Who died, as an answer tells it.
+#[derive(Clone, Copy, Debug)]
+pub struct Killed {
+    pub victim: TaskId,
+    /// How many died with a group that was killed as one, the victim among them. `None` where it died alone.
+    pub with_group: Option<u32>,
+}
+
+/// The kill that an answer tells, if it tells one.
+pub fn killed_in(answer: &Answer) -> Option<Killed> {
+    match answer {
+        Answer::Kill(task) => Some(Killed {
+            victim: *task,
+            with_group: None,
+        }),
+        Answer::KillAll { victim, tasks } => Some(Killed {
+            victim: *victim,
+            with_group: Some(*tasks),
+        }),
+        _ => None,
+    }
+}
+
+impl fmt::Display for Killed {
+    fn fmt<W: Write>(&self, f: &mut Formatter<W>) -> fmt::Result {
+        let victim = self.victim.0;
+        match self.with_group {
+            Some(tasks) => write!(f, "killed group {victim} {tasks}"),
+            None => write!(f, "killed {victim}"),
+        }
+    }
+}
 
 /// A task that is killed so that there is room, and the group under which room is wanted, as they were before.
 #[derive(Clone, Copy, Debug)]
@@ -18,6 +53,8 @@ pub struct Killing<'s> {
     pub max: Amount,
     /// Pages that are charged to it and below it.
     pub usage: u64,
+    /// The path of the group that dies with the task. `None` where the task dies alone.
+    pub group: Option<&'s str>,
 }
 
 impl Killing<'_> {
@@ -56,10 +93,16 @@ impl Killing<'_> {
 
 impl fmt::Display for Killing<'_> {
     fn fmt<W: Write>(&self, f: &mut Formatter<W>) -> fmt::Result {
-        write!(f, "killed {}: ", self.victim.task.0)?;
         self.write_choice(f)?;
         f.write_str(" ")?;
         self.write_limit(f)?;
-        f.write_str(" and where nothing can be reclaimed")
+        f.write_str(" and where nothing can be reclaimed")?;
+        match self.group {
+            Some(path) => write!(
+                f,
+                "; {path} is killed as one, since its memory.oom.group is 1"
+            ),
+            None => Ok(()),
+        }
     }
 }

@@ -3,11 +3,11 @@
 use crate::killing::Killing;
 use crate::options::Options;
 use crate::source::paths_of;
-use book::Book;
+use book::{Book, GroupLook};
 use driver::Schedule;
 use machine::bytes::PAGE_BYTES;
 use machine::event::Cause;
-use machine::id::TaskId;
+use machine::id::{GroupId, TaskId};
 use std::alloc::{AllocError, Global};
 use std::io;
 use std::io::Write;
@@ -116,20 +116,30 @@ impl<'s> Observed<'s> {
         let Some(victim) = book.victim(cause) else {
             return;
         };
+        let Some((path, look)) = self.group_of(book, victim.limit) else {
+            return;
+        };
+        let group = victim.group.and_then(|group| self.group_of(book, group));
+        self.doomed = Some(Killing {
+            victim,
+            cause,
+            path,
+            max: look.max,
+            usage: look.usage,
+            group: group.map(|(path, _)| path),
+        });
+    }
+
+    /// The path of the group of this number, and what is known of it, if it is one of those that are seen.
+    fn group_of(&self, book: &Book, group: GroupId) -> Option<(&'s str, GroupLook)> {
         for seen in self.groups.iter() {
             if let Some(look) = book.look(seen.path) {
-                if look.number == victim.limit.0 {
-                    self.doomed = Some(Killing {
-                        victim,
-                        cause,
-                        path: seen.path,
-                        max: look.max,
-                        usage: look.usage,
-                    });
-                    return;
+                if look.number == group.0 {
+                    return Some((seen.path, look));
                 }
             }
         }
+        None
     }
 
     /// How the task came to be killed, where the relief that was asked for last killed it.

@@ -11,6 +11,7 @@ ghost use Rattle.printer.specs.Sinks.{OutTakes, OutBegins, IsQuiet, GoesOn, is_e
 
 use crate::begun::Begun;
 use crate::judged::{is_byte, refusal_of};
+use crate::killing::{Killed, killed_in};
 use crate::metered::{Calls, Metered, Moved};
 use crate::observed::Observed;
 use crate::options::Options;
@@ -23,7 +24,6 @@ use book::Book;
 use driver::{Actor, Answer, Closed, Config, Reply, Sink, Steps, Stop, Word, run_into};
 use explain::{Reason, Told, Words, reason_of};
 use machine::event::Cause;
-use machine::id::TaskId;
 use machine::refusal::Refusal;
 use std::alloc::{AllocError, Global};
 use std::io;
@@ -278,13 +278,13 @@ impl<'o, 'e, 's, 'l, 't, 'b, 'g, 'p, 'f, O: Write, E: Write> Printer<
         ensures ends { IfErr result (λ why. is_end why ≡ false) }
         ensures quiet { IsQuiet self.old.options self.old.shown self.new.shown (E.contents self.old.err.now) (E.contents self.new.err.now) }
     {
-        let Answer::Kill(task) = answer else {
+        let Some(killed) = killed_in(answer) else {
             return Ok(());
         };
         if !self.options.explain {
             return Ok(());
         }
-        match self.say_kill(step, *task) {
+        match self.say_kill(step, killed) {
             Ok(false) => Ok(()),
             Ok(true) => self.say(),
             Err(error) => Err(Stopped::Unwritten(error)),
@@ -292,14 +292,14 @@ impl<'o, 'e, 's, 'l, 't, 'b, 'g, 'p, 'f, O: Write, E: Write> Printer<
     }
 
     /// Makes the text say why the task was killed, and says whether anything is known of it.
-    fn say_kill(&mut self, step: usize, task: TaskId) -> io::Result<bool>
+    fn say_kill(&mut self, step: usize, killed: Killed) -> io::Result<bool>
         ensures out { self.new.out ≡ self.old.out }
         ensures err { self.new.err ≡ self.old.err }
         ensures options { self.new.options ≡ self.old.options }
         ensures stopped { self.new.stopped.now ≡ self.old.stopped.now }
         ensures shown { self.new.shown ≡ self.old.shown }
     {
-        let Some(killing) = self.observed.killing_of(task) else {
+        let Some(killing) = self.observed.killing_of(killed.victim) else {
             return Ok(false);
         };
         let source = self.source;
@@ -308,7 +308,7 @@ impl<'o, 'e, 's, 'l, 't, 'b, 'g, 'p, 'f, O: Write, E: Write> Printer<
         let words = Words(texts.of(number));
         self.text.clear();
         let name = source.name;
-        write!(self.text, "{name}:{number}: {words}: {killing}")?;
+        write!(self.text, "{name}:{number}: {words}: {killed}: {killing}")?;
         Ok(true)
     }
 

@@ -34,6 +34,7 @@ const REFUSING: [Word; 18] = [
 pub struct Tally {
     /// Commands that came to their end.
     ended: u64,
+    /// Tasks that were killed.
     kills: u64,
     /// How often each of the words came that refuse something, in their order.
     refused: [u64; REFUSING.len()],
@@ -56,6 +57,9 @@ impl Tally {
     pub fn count(&mut self, answer: &Answer) {
         match answer {
             Answer::Kill(_) => bump(&mut self.kills),
+            Answer::KillAll { victim: _, tasks } => {
+                self.kills = self.kills.saturating_add(u64::from(*tasks));
+            }
             Answer::Word(word) => self.count_word(*word),
             Answer::Done | Answer::Text(_) | Answer::Byte(_) => bump(&mut self.ended),
         }

@@ -5,47 +5,27 @@ use Rattle.std.proofs.lemmas.List.Sums.{take_while-cons}
 use Rattle.machine.specs.declared.amount.Amount.{Amount}
 use Rattle.machine.specs.Protection.{min_usage, children_min_usage, below_parent, effective_along, effective}
 use Rattle.machine.specs.Tree.{Node, node_at, IsTree, chain, chain_below, under, under_at}
-use Rattle.machine.proofs.TreeLemmas.{chain-step, under_at-None, under_at-step}
+use Rattle.machine.proofs.ChainLemmas.{chain_below-more, chain_below-step, chain_below-own}
+use Rattle.machine.proofs.TreeLemmas.{under_at-None, under_at-step}
 
 -- equal numbers give the same value below a parent
 pub same_below : (recursive : Bool) {e k : Amount} {s t a b u v n m : ℕ} → e ≡ k → s ≡ t → a ≡ b → u ≡ v → n ≡ m → below_parent recursive e s a u n ≡ below_parent recursive k t b v m
 same_below recursive p q r x y = cc
 
 module _ (tree : List Node) (is : IsTree tree) (target : ℕ) where
-  below : Option ℕ → List ℕ
-  below at = take_while (λ a. not (a == target)) (chain tree at)
-
-  chain_below-more : (g : ℕ) → target ≢ g → chain_below tree target g ≡ g ∷ below (node_at tree g).parent
-  unfolding chain_below below
-  chain_below-more g differs =
-      let other : (g == target) ≡ false = grind (arith, differs) in
-      ap (take_while (λ a. not (a == target))) (chain-step tree is g) ∙ take_while-cons (λ a. not (a == target)) g (chain tree (node_at tree g).parent)
-      ∙ ap (λ b. cond (not b) (g ∷ below (node_at tree g).parent) []) other
-
-  chain_below-step : (g p : ℕ) → target ≢ g → (node_at tree g).parent ≡ Some p → chain_below tree target g ≡ g ∷ chain_below tree target p
-  unfolding chain_below below
-  chain_below-step g p differs parent = chain_below-more g differs ∙ ap (λ at. g ∷ below at) parent
-
-  chain_below-own : chain_below tree target target ≡ []
-  unfolding chain_below
-  chain_below-own =
-      let same : (target == target) ≡ true = grind arith in
-      ap (take_while (λ a. not (a == target))) (chain-step tree is target) ∙ take_while-cons (λ a. not (a == target)) target (chain tree (node_at tree target).parent)
-      ∙ ap (λ b. cond (not b) (target ∷ take_while (λ a. not (a == target)) (chain tree (node_at tree target).parent)) []) same
-
   module _ (recursive : Bool) (setting : ℕ → Amount) (usage : ℕ → ℕ) where
     -- rule 2: a child of the target
     pub effective-child : (g : ℕ) → target ≢ g → (node_at tree g).parent ≡ Some target → effective recursive tree setting usage target g ≡ setting g
     unfolding effective_along
-    effective-child g differs parent = ap (effective_along recursive tree setting usage) (chain_below-step g target differs parent ∙ ap (λ rest. g ∷ rest) chain_below-own)
+    effective-child g differs parent = ap (effective_along recursive tree setting usage) (chain_below-step tree is target g target differs parent ∙ ap (λ rest. g ∷ rest) (chain_below-own tree is target))
 
     -- rules 3 to 5: a group below that
     pub effective-step : (g p : ℕ) → target ≢ g → (node_at tree g).parent ≡ Some p → target ≢ p
         → effective recursive tree setting usage target g ≡ below_parent recursive (effective recursive tree setting usage target p) (children_min_usage tree setting usage p) (usage p) (usage g) (min_usage setting usage g)
     unfolding effective_along
     effective-step g p differs parent more =
-        ap (effective_along recursive tree setting usage) (chain_below-step g p differs parent ∙ ap (λ rest. g ∷ rest) (chain_below-more p more))
-        ∙ ap (λ e. below_parent recursive e (children_min_usage tree setting usage p) (usage p) (usage g) (min_usage setting usage g)) (ap (effective_along recursive tree setting usage) (sym (chain_below-more p more)))
+        ap (effective_along recursive tree setting usage) (chain_below-step tree is target g p differs parent ∙ ap (λ rest. g ∷ rest) (chain_below-more tree is target p more))
+        ∙ ap (λ e. below_parent recursive e (children_min_usage tree setting usage p) (usage p) (usage g) (min_usage setting usage g)) (ap (effective_along recursive tree setting usage) (sym (chain_below-more tree is target p more)))
 
   above_is : (g : ℕ) → target ≢ g → under tree target g ≡ true → under_at tree target (node_at tree g).parent ≡ true
   above_is g differs h =

@@ -18,7 +18,7 @@ const GROUPS: usize = 10;
 /// What is shown of one group: its files, where it is there.
 #[derive(Clone, Copy, Debug, PartialEq, Eq)]
 struct GroupShown {
-    files: [Option<Shown>; 9],
+    files: [Option<Shown>; 10],
 }
 
 /// What is shown of all groups, and which group has each path.
@@ -66,6 +66,7 @@ fn group_shown(book: &mut Book, pass: &mut Pass, group: GroupId) -> GroupShown {
             show(book, pass, Query::Max(group)),
             show(book, pass, Query::Guard(Guard::Min, group)),
             show(book, pass, Query::Guard(Guard::Low, group)),
+            show(book, pass, Query::OomGroup(group)),
             show(book, pass, Query::Events(group)),
             show(book, pass, Query::EventsLocal(group)),
             show(book, pass, Query::Stat(group)),
@@ -81,7 +82,7 @@ fn number(book: &Book, path: &str) -> Option<u32> {
 
 /// Looks at a book. The pass has room for it, so no memory is taken.
 pub fn look(book: &mut Book, pass: &mut Pass) -> Shows {
-    let mut groups = [GroupShown { files: [None; 9] }; GROUPS];
+    let mut groups = [GroupShown { files: [None; 10] }; GROUPS];
     for (at, shown) in groups.iter_mut().enumerate() {
         *shown = group_shown(book, pass, GroupId(at as u32));
     }

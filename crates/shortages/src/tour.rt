@@ -8,7 +8,7 @@ use crate::step::{
 use machine::amount::Amount;
 use machine::event::{Cause, Op, Query, Setting};
 use machine::id::{GroupId, TaskId};
-use machine::record::Guard;
+use machine::record::{Guard, OomGroup};
 use std::alloc::{AllocError, Global};
 
 /// A machine, and what it is asked.
@@ -122,10 +122,11 @@ fn touching() -> [Step; 11] {
 }
 
 /// What is written to groups, and shown of them.
-fn grouped() -> [Step; 8] {
+fn grouped() -> [Step; 10] {
     let max = Setting::Max(Amount::Pages(5));
     let min = Setting::Guard(Guard::Min, Amount::Pages(1));
     let low = Setting::Guard(Guard::Low, Amount::Pages(2));
+    let flag = Setting::OomGroup(OomGroup::Whole);
     [
         of_task(
             "attach",
@@ -138,11 +139,16 @@ fn grouped() -> [Step; 8] {
         set("set max", 3, max),
         set("set min", 2, min),
         set("set low", 2, low),
+        set("set the flag", 3, flag),
         of_group(
             "show current",
             GroupChange::Show(Query::Current(GroupId(1))),
         ),
         of_group("show max", GroupChange::Show(Query::Max(GroupId(3)))),
+        of_group(
+            "show the flag",
+            GroupChange::Show(Query::OomGroup(GroupId(3))),
+        ),
         of_group("show stat", GroupChange::Show(Query::Stat(GroupId(1)))),
     ]
 }

@@ -20,11 +20,12 @@ use Rattle.machine.specs.declared.command.Word.TheVariants as word
 use Rattle.machine.specs.declared.command.Answer.{Answer}
 use Rattle.machine.specs.declared.command.Answer.TheVariants as answer
 use Rattle.machine.specs.declared.command.Reply.{Reply as Told_by}
+use Rattle.machine.specs.declared.record.OomGroup.{OomGroup}
 use Rattle.machine.specs.declared.control.ControlFile.{ControlFile}
 use Rattle.machine.specs.declared.control.ControlFile.TheVariants as file
 use Rattle.machine.specs.Slots.{at}
 use Rattle.machine.specs.Tree.{Node, find_group}
-use Rattle.machine.specs.Control.{file_named, has_file, amount_of, text_of}
+use Rattle.machine.specs.Control.{file_named, has_file, amount_of, flag_of, text_of}
 use Rattle.block_store.specs.declared.device.Fault.{Fault}
 use Rattle.block_store.specs.Device.{Disk, ReadsBlock, WritesBlock}
 use Rattle.pages.specs.Tickets.{TicketOf}
@@ -42,6 +43,8 @@ use Rattle.turns.specs.declared.turn.Pending.{Pending}
 use Rattle.turns.specs.declared.turn.Pending.TheVariants as pending
 use Rattle.turns.specs.declared.turn.Want.{Want}
 use Rattle.turns.specs.declared.turn.Want.TheVariants as want
+use Rattle.turns.specs.declared.turn.Kill.{Kill}
+use Rattle.turns.specs.declared.turn.Kill.TheVariants as kill
 use Rattle.turns.specs.declared.turn.Transition.{Transition}
 use Rattle.turns.specs.declared.turn.Transition.TheVariants.{Goes, Kills, Waits, Ends}
 
@@ -73,6 +76,7 @@ wants marks free (stage.MakeRoom access why) = want.Call (pending.MakeRoom acces
 wants marks free (stage.SetMax g max) = want.Call (pending.SetMax g) (event.Set g (setting.Max max))
 wants marks free (stage.Lower g) = want.Call (pending.Lower g) (event.Relieve (cause.Lower g))
 wants marks free (stage.SetGuard g guard amount) = want.Call pending.Make (event.Set g (setting.Guard guard amount))
+wants marks free (stage.SetOomGroup g flag) = want.Call pending.Make (event.Set g (setting.OomGroup flag))
 wants marks free (stage.Reclaim g left) = wants_pages g.0 left
 wants marks free stage.Watch = wants_watch marks free
 wants marks free stage.Balance = wants_balance marks free
@@ -125,7 +129,8 @@ MadeRoom access why reply.Room transition = transition ≡ Goes (stage.Try acces
 MadeRoom access why reply.Dropped transition = transition ≡ Goes (stage.Try access)
 MadeRoom access why (reply.Out ticket) transition = transition ≡ Goes (stage.Write (resume.Try access) ticket)
 MadeRoom access why reply.Wait transition = transition ≡ Waits (resume.MakeRoom access why)
-MadeRoom access why (reply.KilledTask t) transition = transition ≡ Kills t (resume.Try access)
+MadeRoom access why (reply.KilledTask t) transition = transition ≡ Kills (kill.One t) (resume.Try access)
+MadeRoom access why (reply.KilledAll victim group tasks) transition = transition ≡ Kills (kill.Group victim tasks) (resume.Try access)
 MadeRoom access why reply.NoVictim transition = transition ≡ ends_with word.OutOfMemory
 MadeRoom access why (reply.Refused refused) transition = transition ≡ ends_refused refused
 MadeRoom access why said transition = ⊥
@@ -142,7 +147,8 @@ Lowered g reply.Room transition = transition ≡ Ends answer.Done
 Lowered g reply.Dropped transition = transition ≡ Goes (stage.Lower (record { 0 = g }))
 Lowered g (reply.Out ticket) transition = transition ≡ Goes (stage.Write (resume.Lower (record { 0 = g })) ticket)
 Lowered g reply.Wait transition = transition ≡ Waits (resume.Lower (record { 0 = g }))
-Lowered g (reply.KilledTask t) transition = transition ≡ Kills t (resume.Lower (record { 0 = g }))
+Lowered g (reply.KilledTask t) transition = transition ≡ Kills (kill.One t) (resume.Lower (record { 0 = g }))
+Lowered g (reply.KilledAll victim group tasks) transition = transition ≡ Kills (kill.Group victim tasks) (resume.Lower (record { 0 = g }))
 Lowered g reply.NoVictim transition = transition ≡ Ends answer.Done
 Lowered g (reply.Refused why) transition = transition ≡ ends_refused why
 Lowered g said transition = ⊥
@@ -183,6 +189,11 @@ abbrev pub WasShown : Reply → Transition → Type 0
 WasShown (reply.Shown numbers) transition = transition ≡ Ends (answer.Text (text_of numbers))
 WasShown (reply.Refused why) transition = transition ≡ ends_refused why
 WasShown said transition = ⊥
+
+-- what is told of a kill
+abbrev pub kill_answer : Kill → Answer
+kill_answer (kill.One t) = answer.Kill t
+kill_answer (kill.Group victim tasks) = answer.KillAll victim tasks
 
 -- where a command goes on once a transfer has ended, its own or another's
 abbrev pub resumes_at : Resume → Stage
@@ -288,11 +299,16 @@ abbrev pub with_amount : Option Amount → (Amount → Judged) → Judged
 with_amount None next = Err Invalid
 with_amount (Some amount) next = next amount
 
+abbrev pub with_flag : Option OomGroup → (OomGroup → Judged) → Judged
+with_flag None next = Err Invalid
+with_flag (Some flag) next = next flag
+
 -- the mode of a file that is read
 abbrev pub reads_file : ℕ → ControlFile → Judged
 reads_file g file.Current = Ok (stage.Show (query.Current (record { 0 = g })))
 reads_file g file.Max = Ok (stage.Show (query.Max (record { 0 = g })))
 reads_file g (file.Guard guard) = Ok (stage.Show (query.Guard guard (record { 0 = g })))
+reads_file g file.OomGroup = Ok (stage.Show (query.OomGroup (record { 0 = g })))
 reads_file g file.Events = Ok (stage.Show (query.Events (record { 0 = g })))
 reads_file g file.EventsLocal = Ok (stage.Show (query.EventsLocal (record { 0 = g })))
 reads_file g file.Stat = Ok (stage.Show (query.Stat (record { 0 = g })))
@@ -311,6 +327,7 @@ writes_file g text file.EventsLocal = Err Invalid
 writes_file g text file.Stat = Err Invalid
 writes_file g text file.Max = with_amount (amount_of text) (λ max. Ok (stage.SetMax (record { 0 = g }) max))
 writes_file g text (file.Guard guard) = with_amount (amount_of text) (λ amount. Ok (stage.SetGuard (record { 0 = g }) guard amount))
+writes_file g text file.OomGroup = with_flag (flag_of text) (λ flag. Ok (stage.SetOomGroup (record { 0 = g }) flag))
 writes_file g text file.Reclaim = with_amount (amount_of text) (reclaims g)
 
 -- a command of a task; one that is none of a task's is Invalid

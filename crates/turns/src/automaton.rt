@@ -7,7 +7,7 @@ ghost use Rattle.book.specs.Replies.{IsAccessReply, IsReliefReply, IsReclaimRepl
 ghost use Rattle.turns.specs.Turns.{access_event, wants_pages, wants_balance, wants_watch, wants, ends_with, ends_refused, byte_answer, resumes_at, Tried, MadeRoom, MaxSet, Lowered, Reclaimed, Balanced, Made, TaskDid, WasShown, Closed, Told, WantsText, Awaits, AwaitsAll};
 ghost use Rattle.turns.specs.Tickets.{holds, holds_want, holds_after, gives_ticket, OwnReply, OwnStage, OwnWant, OwnTransition, IsHanded, IsSpendableReply};
 
-use crate::turn::{Access, Pending, Resume, Stage, Transition, Want};
+use crate::turn::{Access, Kill, Pending, Resume, Stage, Transition, Want};
 use book::{Event, InTicket, OutTicket, Reply};
 use control_files::show_text;
 use machine::command::{Answer, Word};
@@ -51,6 +51,13 @@ pub fn ask(stage: Stage, marks: Watermarks, free: u32) -> Want
             Event::Set {
                 group,
                 setting: Setting::Guard(guard, amount),
+            },
+        ),
+        Stage::SetOomGroup { group, flag } => Want::Call(
+            Pending::Make,
+            Event::Set {
+                group,
+                setting: Setting::OomGroup(flag),
             },
         ),
         Stage::Reclaim { group, left } => ask_page(group, left),
@@ -189,6 +196,11 @@ pub fn spend(reply: Reply)
         | Reply::Killed => {}
         Reply::Ok | Reply::Room | Reply::Dropped | Reply::Wait | Reply::Nothing => {}
         Reply::KilledTask(_) | Reply::NoVictim | Reply::Shown(_) | Reply::Refused(_) => {}
+        Reply::KilledAll {
+            victim: _,
+            group: _,
+            tasks: _,
+        } => {}
     }
 }
 
@@ -221,6 +233,7 @@ pub fn let_go(stage: Stage)
             guard: _,
             amount: _,
         } => {}
+        Stage::SetOomGroup { group: _, flag: _ } => {}
         Stage::Reclaim { group: _, left: _ } | Stage::Watch | Stage::Balance => {}
         Stage::Spawn { task: _, group: _ } | Stage::Fork { task: _, child: _ } => {}
         Stage::Exit(_) | Stage::Free { task: _, page: _ } => {}
@@ -266,7 +279,12 @@ fn made_room(access: Access, cause: Cause, reply: Reply) -> Transition
         Reply::Room | Reply::Dropped => Transition::Goes(Stage::Try(access)),
         Reply::Out(ticket) => Transition::Goes(Stage::Write(Resume::Try(access), ticket)),
         Reply::Wait => Transition::Waits(Resume::MakeRoom(access, cause)),
-        Reply::KilledTask(task) => Transition::Kills(task, Resume::Try(access)),
+        Reply::KilledTask(task) => Transition::Kills(Kill::One(task), Resume::Try(access)),
+        Reply::KilledAll {
+            victim,
+            group: _,
+            tasks,
+        } => Transition::Kills(Kill::Group { victim, tasks }, Resume::Try(access)),
         Reply::NoVictim => word(Word::OutOfMemory),
         Reply::Refused(cause) => refused(cause),
         other => never(other),
@@ -297,7 +315,12 @@ fn lowered(group: GroupId, reply: Reply) -> Transition
         Reply::Dropped => Transition::Goes(Stage::Lower(group)),
         Reply::Out(ticket) => Transition::Goes(Stage::Write(Resume::Lower(group), ticket)),
         Reply::Wait => Transition::Waits(Resume::Lower(group)),
-        Reply::KilledTask(task) => Transition::Kills(task, Resume::Lower(group)),
+        Reply::KilledTask(task) => Transition::Kills(Kill::One(task), Resume::Lower(group)),
+        Reply::KilledAll {
+            victim,
+            group: _,
+            tasks,
+        } => Transition::Kills(Kill::Group { victim, tasks }, Resume::Lower(group)),
         Reply::Refused(cause) => refused(cause),
         other => never(other),
     }

@@ -1,5 +1,5 @@
 //! The first turn of a command: its paths are found, all of them; then a control file's name, mode and
-//! amount are judged.
+//! amount or flag are judged.
 
 ghost use Rattle.std.specs.Prelude.{◌≡◌, ℕ, ◌<◌, ◌≤◌, false, IfOk, OnOk, OnErr, map, option_map};
 ghost use Rattle.book.specs.Passes.{find_of, keeping};
@@ -11,7 +11,7 @@ ghost use Rattle.machine.specs.Control.{file_named};
 
 use crate::turn::{Access, Stage};
 use book::{Book, Pass};
-use control_files::{file_named, has_file, parse_amount};
+use control_files::{file_named, has_file, parse_amount, parse_flag};
 use machine::amount::Amount;
 use machine::command::{Actor, Command};
 use machine::control::ControlFile;
@@ -252,6 +252,10 @@ fn write_named(group: GroupId, file: ControlFile, text: &str) -> Result<Stage, R
             }),
             None => Err(Refusal::Invalid),
         },
+        ControlFile::OomGroup => match parse_flag(text) {
+            Some(flag) => Ok(Stage::SetOomGroup { group, flag }),
+            None => Err(Refusal::Invalid),
+        },
         ControlFile::Reclaim => match parse_amount(text) {
             Some(Amount::Pages(left)) => Ok(Stage::Reclaim { group, left }),
             // There is no telling how many pages `max` would be.
@@ -294,6 +298,7 @@ fn read_named(group: GroupId, file: ControlFile) -> Result<Stage, Refusal>
         ControlFile::Current => Ok(Stage::Show(Query::Current(group))),
         ControlFile::Max => Ok(Stage::Show(Query::Max(group))),
         ControlFile::Guard(guard) => Ok(Stage::Show(Query::Guard(guard, group))),
+        ControlFile::OomGroup => Ok(Stage::Show(Query::OomGroup(group))),
         ControlFile::Events => Ok(Stage::Show(Query::Events(group))),
         ControlFile::EventsLocal => Ok(Stage::Show(Query::EventsLocal(group))),
         ControlFile::Stat => Ok(Stage::Show(Query::Stat(group))),

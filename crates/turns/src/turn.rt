@@ -1,11 +1,14 @@
 //! A command under way, row by row of the table of turns.
 
+ghost use Rattle.std.specs.Prelude.{◌≡◌};
+ghost use Rattle.turns.specs.Turns.{kill_answer};
+
 use book::{Event, InTicket, OutTicket};
 use machine::amount::Amount;
 use machine::command::Answer;
 use machine::event::{Cause, Op, Place, Query};
 use machine::id::{GroupId, TaskId};
-use machine::record::Guard;
+use machine::record::{Guard, OomGroup};
 use machine::text::Text;
 
 /// A task's access to a byte.
@@ -52,6 +55,11 @@ pub enum Stage {
         group: GroupId,
         guard: Guard,
         amount: Amount,
+    },
+    /// The group's flag is set: whether the killer takes it as one.
+    SetOomGroup {
+        group: GroupId,
+        flag: OomGroup,
     },
     /// So many pages more are taken from the group or from below it.
     Reclaim {
@@ -132,12 +140,33 @@ pub enum Want {
     End(Answer),
 }
 
+/// Who was killed.
+#[derive(Clone, Copy, Debug, PartialEq, Eq)]
+pub enum Kill {
+    /// A task, alone.
+    One(TaskId),
+    /// A victim, with all tasks of a group and of those below it: so many, the victim counted.
+    Group { victim: TaskId, tasks: u32 },
+}
+
+impl Kill {
+    /// What is told of it.
+    pub fn answer(self) -> Answer
+        ensures { result ≡ kill_answer self }
+    {
+        match self {
+            Kill::One(task) => Answer::Kill(task),
+            Kill::Group { victim, tasks } => Answer::KillAll { victim, tasks },
+        }
+    }
+}
+
 /// What a turn makes of a command.
 #[must_use]
 pub enum Transition {
     Goes(Stage),
-    /// A task was killed, and the command goes on.
-    Kills(TaskId, Resume),
+    /// A task was killed, or all of a group, and the command goes on.
+    Kills(Kill, Resume),
     /// A page in transfer is in the way. A schedule answers `busy`; a worker waits until a transfer has
     /// ended, and goes on here.
     Waits(Resume),

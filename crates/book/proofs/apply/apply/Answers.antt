@@ -25,6 +25,9 @@ returns-in-Nothing-clause-carries c = rw c.in-Nothing.is (carries-nothing c.args
 pub returns-in-Kill-clause-carries : goal.returns-in-Kill-clause-carries
 returns-in-Kill-clause-carries c = rw c.in-Kill.is (c.kill.ensures)
 
+pub returns-in-KillAll-clause-carries : goal.returns-in-KillAll-clause-carries
+returns-in-KillAll-clause-carries c = rw c.in-KillAll.is (c.kill_all.ensures)
+
 pub returns-in-NoVictim-clause-carries : goal.returns-in-NoVictim-clause-carries
 returns-in-NoVictim-clause-carries c = rw c.in-NoVictim.is (carries-no_victim c.args.state.now c.count.new.self c.in-NoVictim.limit c.is_joined.ensures.listed c.count.ensures.counts)
 

@@ -1,4 +1,4 @@
-use Rattle.std.proofs.Common.{◌<◌, ◌∙◌, ℕ, refl, sym, ap, subst}
+use Rattle.std.proofs.Common.{◌<◌, ◌≤◌, ◌^◌, ◌∙◌, ℕ, refl, sym, ap, subst, arith}
 use Rattle.machine.specs.declared.record.Key.TheVariants as key
 use Rattle.machine.specs.Tasks.{Tasks, task_at}
 use Rattle.book.proofs.JudgeLemmas.{known-home}
@@ -6,7 +6,7 @@ use Rattle.book.proofs.CarryLemmas.{carries-kill}
 use Rattle.book.proofs.apply.kill.Goals as goal
 
 pub count-requires-2-clause-few : goal.count-requires-2-clause-few
-count-requires-2-clause-few c = subst (λ (n : ℕ). n < 18446744073709551615) (sym (c.count.ensures.others key.OomKill refl)) (c.requires.few key.OomKill)
+count-requires-2-clause-few c = let most = c.count.ensures.most (2 ^ 63) c.requires.few key.OomKill in omega (arith, most)
 
 pub returns : goal.returns
 returns c =

@@ -20,3 +20,7 @@ returns-in-Ok-clause-current c =
     ∙ ap (λ (a : Asked). keeping pass (Call a said)) (sym (asked-whole c.args.event c.requires.asked)) in
     let called = called-current c.args.self.now pass c.args.event said c.ask-reply.new.self (sym c.if-not-is_current.ensures) (rw c.worker.ensures at c.ask-reply.ensures.called) in
     ap (λ (p : PassOf). is_current c.ask-reply.new.self p) kept ∙ current-on c.args.self.now pass c.args.event (asked-leaves c.args.event c.requires.asked) c.ask-reply.new.self said called
+
+pub returns-in-Ok-clause-called : goal.returns-in-Ok-clause-called
+returns-in-Ok-clause-called c =
+    called-current c.args.self.now c.args.pass.now c.args.event (reply_of c.ask-reply.result) c.ask-reply.new.self (sym c.if-not-is_current.ensures) (rw c.worker.ensures at c.ask-reply.ensures.called)

@@ -20,6 +20,7 @@ invariant_of-result c =
       mapped = mapped-open c.in_ok-parts.parts.pages.pages c.in-Ok.spaces.page_tables opened.pages c.in-Ok.ensures.page_tables;
       numbers = c.in-Ok.ensures.numbers ∙ c.numbers.ensures;
       homes = homes-open c.in_ok-tree.tree c.in-Ok.spaces.tasks c.in-Ok.ensures.tasks;
+      flagged = rw (c.in_ok-flags.ensures, tree) refl;
       cursors = rw (c.in_ok-cursors.ensures, tree) refl;
       populated = c.in-Ok.ensures.groups ∙ sym (ap length tree);
     }

@@ -1,0 +1,9 @@
+use Rattle.std.proofs.Common.{◌^◌, arith}
+use Rattle.page_state.proofs.KillLemmas.{counts-group}
+use Rattle.page_state.proofs.joined.State.count_group_kill.Goals as goal
+
+pub count_kills-tasks-requires : goal.count_kills-tasks-requires
+count_kills-tasks-requires c = record { few = λ k. c.count.ensures.most (2 ^ 63) c.requires.few k }
+
+pub returns-clause-counts : goal.returns-clause-counts
+returns-clause-counts c = counts-group c.args.self.now c.count.new.self c.count_kills-tasks.new.self c.count-2.new.self c.args.limit.0 c.args.group.0 c.count.ensures.counts c.count_kills-tasks.ensures.counts c.count-2.ensures.counts

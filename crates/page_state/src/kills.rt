@@ -1,0 +1,91 @@
+//! A kill of a group: what is counted for it, and how all of its tasks end.
+
+ghost use Rattle.std.specs.Prelude.{◌≡◌, ℕ, ◌+◌, ◌^◌, ◌<◌, ◌==◌, ◌&&◌, ◌∷◌, [], false, true, if◌then◌else◌};
+ghost use Rattle.machine.specs.declared.record.Key.TheVariants as key;
+ghost use Rattle.machine.specs.Tree.{is_live};
+ghost use Rattle.machine.specs.Tasks.{group_of_task, is_live_life};
+ghost use Rattle.machine.specs.Counts.{count_of, total};
+ghost use Rattle.machine.specs.Victim.{is_candidate, killed_with, counts_of_killed, counts_of_group_kill};
+ghost use Rattle.page_state.specs.States.{AreAtMost, AreFew};
+ghost use Rattle.page_state.specs.Changes.{counts_events, EndsTasks};
+
+use crate::joined::State;
+use machine::id::{GroupId, TaskId};
+use machine::record::{Key, Life};
+use oom::is_candidate;
+
+impl State {
+    /// Counts a kill of the group, for want of room under the limit: `oom` at the limit; `oom_kill` for
+    /// each task that lives at or under the group, at its own group; `oom_group_kill` at the group. Answers
+    /// how many tasks these are. They live on. It goes over all task numbers.
+    pub fn count_group_kill(&mut self, limit: GroupId, group: GroupId) -> u32
+        requires limit { is_live self.old.tables.tree limit.0 ≡ true }
+        requires group { is_live self.old.tables.tree group.0 ≡ true }
+        requires few { AreFew self.old.tables }
+        ensures tasks { result ≡ killed_with self.old.tables.tree self.old.tables.tasks group.0 }
+        ensures counts { self.new ≡ counts_events self.old (counts_of_group_kill self.old.tables.tree self.old.tables.tasks limit.0 group.0) }
+    {
+        self.count(limit, Key::Oom);
+        let tasks = self.count_kills(group);
+        self.count(group, Key::OomGroupKill);
+        tasks
+    }
+
+    /// Counts `oom_kill` for each task that lives at or under the group, at its own group, and answers how
+    /// many these are.
+    fn count_kills(&mut self, group: GroupId) -> u32
+        requires few { AreAtMost self.old.tables (2 ^ 63 + 1) }
+        ensures tasks { result ≡ killed_with self.old.tables.tree self.old.tables.tasks group.0 }
+        ensures counts { self.new ≡ counts_events self.old (counts_of_killed self.old.tables.tree self.old.tables.tasks group.0) }
+        ensures most { AreAtMost self.new.tables (2 ^ 63 + 65537) }
+    {
+        let mut tasks = 0;
+        for number in 0..self.spaces.slots() as u32 {
+            tasks += self.count_kill(group, TaskId(number));
+        }
+        tasks
+    }
+
+    /// Counts `oom_kill` at the task's group, if the task lives at or under this one, and answers how many
+    /// such tasks it is: one, or none.
+    fn count_kill(&mut self, group: GroupId, task: TaskId) -> u32
+        requires few { total self.old.tables.tree self.old.tables.counted 0 key.OomKill < u64.MAX }
+        ensures task { result ≡ (if is_candidate self.old.tables.tree self.old.tables.tasks group.0 task.0 then 1 else 0) }
+        ensures counts { self.new ≡ counts_events self.old (if is_candidate self.old.tables.tree self.old.tables.tasks group.0 task.0 then count_of (group_of_task self.old.tables.tasks task.0) key.OomKill ∷ [] else []) }
+        ensures most { (n : ℕ) → AreAtMost self.old.tables n → AreAtMost self.new.tables (n + 1) }
+    {
+        self.is_joined();
+        if !is_candidate(&self.tree, &self.spaces, group, task) {
+            return 0;
+        }
+        let Some(known) = self.spaces.task(task) else {
+            unreachable!()
+        };
+        self.count(known.group, Key::OomKill);
+        1
+    }
+
+    /// All tasks that live at or under the group end so: their virtual pages show nothing any more, and the
+    /// pages that nothing else maps go, but for those in transfer. It goes over all task numbers. Takes no
+    /// memory.
+    pub fn end_tasks(&mut self, group: GroupId, life: Life)
+        requires { is_live_life life ≡ false }
+        ensures { EndsTasks self.old self.new (is_candidate self.old.tables.tree self.old.tables.tasks group.0) life }
+    {
+        self.is_joined();
+        for number in 0..self.spaces.slots() as u32 {
+            self.end_task_under(group, TaskId(number), life);
+        }
+    }
+
+    /// The task ends so, if it lives at or under the group.
+    fn end_task_under(&mut self, group: GroupId, task: TaskId, life: Life)
+        requires { is_live_life life ≡ false }
+        ensures { EndsTasks self.old self.new (λ u. (u == task.0) && is_candidate self.old.tables.tree self.old.tables.tasks group.0 task.0) life }
+    {
+        self.is_joined();
+        if is_candidate(&self.tree, &self.spaces, group, task) {
+            self.end_task(task, life);
+        }
+    }
+}
