@@ -1,0 +1,21 @@
+-- What a call from another language says of a script.
+use Rattle.std.specs.Prelude.{◌⊎◌, ℕ, List, [], codes, Some}
+use Rattle.printer.specs.declared.options.Options.{Options}
+use Rattle.printer.specs.Asked.{plain}
+use Rattle.subcommands.specs.declared.fault.Fault.{Fault}
+use Rattle.subcommands.specs.Told.{IsUnread, Explains, StartsReport}
+use Rattle.memcgrun_c.specs.declared.Asked.{Asked}
+
+-- the program's options for what is asked
+abbrev pub options_of : Asked → Options
+options_of asked = record plain { labels = asked.labels; strict = asked.strict }
+
+-- why the script was not run to its end
+abbrev pub WhyNot : Options → List ℕ → Fault → Type 0
+WhyNot options script why = IsUnread script why ⊎ Explains options (codes "script") script why
+
+-- the text is the beginning of what is told of such a fault
+pub record Tells (options : Options) (script text : List ℕ) : Type 0 where
+  pub why : Fault
+  pub reason : WhyNot options script why
+  pub tells : StartsReport why (Some []) (Some text)

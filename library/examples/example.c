@@ -1,0 +1,26 @@
+/* Asks one question of the library: who is killed under a limit of two pages?
+ * cc example.c $(pkg-config --cflags --libs memcgrun) -o example */
+#include <memcgrun.h>
+
+#include <stdio.h>
+#include <string.h>
+
+static const char script[] = "group /job\n"
+                             "set /job memory.max 8192\n"
+                             "task 1 /job\n"
+                             "task 2 /job\n"
+                             "1 write 0 0 1\n"
+                             "1 write 1 0 1\n"
+                             "2 write 0 0 1\n";
+
+int main(void)
+{
+    struct memcgrun_text out, err;
+    struct memcgrun_asked asked = {.labels = true};
+    int status = memcgrun_schedule((const uint8_t *)script, strlen(script), asked, &out, &err);
+    fwrite(out.bytes, 1, out.len, stdout);
+    fwrite(err.bytes, 1, err.len, stderr);
+    memcgrun_text_free(&out);
+    memcgrun_text_free(&err);
+    return status;
+}
