@@ -15,6 +15,7 @@ struct run {
     size_t len;
     struct memcgrun_asked asked;
     bool table;
+    bool as_linux;
 };
 
 static uint8_t once(const struct run *run, uint8_t *out, uint8_t *err, struct memcgrun_lengths has,
@@ -25,9 +26,9 @@ static uint8_t once(const struct run *run, uint8_t *out, uint8_t *err, struct me
     case SCHEDULE:
         return memcgrun_schedule_into(script, run->len, run->asked, out, has.out, err, has.err, wanted);
     case CHART:
-        return memcgrun_chart_into(script, run->len, run->table, out, has.out, err, has.err, wanted);
+        return memcgrun_chart_into(script, run->len, run->table, run->as_linux, out, has.out, err, has.err, wanted);
     default:
-        return memcgrun_check_into(script, run->len, out, has.out, err, has.err, wanted);
+        return memcgrun_check_into(script, run->len, run->as_linux, out, has.out, err, has.err, wanted);
     }
 }
 
@@ -81,15 +82,17 @@ int memcgrun_schedule(const uint8_t *script, size_t script_len, struct memcgrun_
     return texts_of(&run, out, err);
 }
 
-int memcgrun_chart(const uint8_t *script, size_t script_len, bool table,
+int memcgrun_chart(const uint8_t *script, size_t script_len, bool table, bool as_linux,
                    struct memcgrun_text *out, struct memcgrun_text *err)
 {
-    struct run run = {.call = CHART, .script = script, .len = script_len, .table = table};
+    struct run run = {
+        .call = CHART, .script = script, .len = script_len, .table = table, .as_linux = as_linux};
     return texts_of(&run, out, err);
 }
 
-int memcgrun_check(const uint8_t *script, size_t script_len, struct memcgrun_text *out, struct memcgrun_text *err)
+int memcgrun_check(const uint8_t *script, size_t script_len, bool as_linux,
+                   struct memcgrun_text *out, struct memcgrun_text *err)
 {
-    struct run run = {.call = CHECK, .script = script, .len = script_len};
+    struct run run = {.call = CHECK, .script = script, .len = script_len, .as_linux = as_linux};
     return texts_of(&run, out, err);
 }

@@ -21,6 +21,7 @@ enum { MEMCGRUN_OK = 0, MEMCGRUN_FAILED = 1, MEMCGRUN_NO_MEMORY = 2 };
 struct memcgrun_asked {
     bool labels; /* before each line of an answer stand the number and the words of its line of the script */
     bool strict; /* the first line that is refused ends the run, and is its fault */
+    bool as_linux; /* pages that are read in are placed as Linux does, and not by a rule of our own */
 };
 
 /* Bytes that the library got by malloc, with a 0 behind the last, which is not counted. */
@@ -38,12 +39,12 @@ int memcgrun_schedule(const uint8_t *script, size_t script_len, struct memcgrun_
 
 /* The same run drawn, as `memcgrun chart` does: out gets what each group was charged with behind each line, as a table
  * of comma-separated values, or else as a picture, SVG. */
-int memcgrun_chart(const uint8_t *script, size_t script_len, bool table,
+int memcgrun_chart(const uint8_t *script, size_t script_len, bool table, bool as_linux,
                    struct memcgrun_text *out, struct memcgrun_text *err);
 
 /* The same run held against the answers that the script's lines `#> ..` expect, as `memcgrun check` does: MEMCGRUN_OK
  * where they are the same. out gets the line that says what comes of it. */
-int memcgrun_check(const uint8_t *script, size_t script_len,
+int memcgrun_check(const uint8_t *script, size_t script_len, bool as_linux,
                    struct memcgrun_text *out, struct memcgrun_text *err);
 
 /* Frees a text and leaves it empty, so that a second call does nothing. */
@@ -65,10 +66,10 @@ struct memcgrun_lengths {
 uint8_t memcgrun_schedule_into(const uint8_t *script, size_t script_len, struct memcgrun_asked asked,
                                uint8_t *out, size_t out_len, uint8_t *err, size_t err_len,
                                struct memcgrun_lengths *lengths);
-uint8_t memcgrun_chart_into(const uint8_t *script, size_t script_len, bool table,
+uint8_t memcgrun_chart_into(const uint8_t *script, size_t script_len, bool table, bool as_linux,
                             uint8_t *out, size_t out_len, uint8_t *err, size_t err_len,
                             struct memcgrun_lengths *lengths);
-uint8_t memcgrun_check_into(const uint8_t *script, size_t script_len,
+uint8_t memcgrun_check_into(const uint8_t *script, size_t script_len, bool as_linux,
                             uint8_t *out, size_t out_len, uint8_t *err, size_t err_len,
                             struct memcgrun_lengths *lengths);
 

@@ -13,14 +13,15 @@ class Memcgrun {
   }
 
   // What a script prints, as { status, out, err }: the status of `memcgrun schedule`, and the text of its two streams, in
-  // which the file is called script. With labels the number and the words of its line stand before each line of an answer.
-  schedule(script, { labels = false, strict = false } = {}) {
-    return this.#call(script, (exports, at, length, texts) => exports.page_schedule(at, length, Number(labels), Number(strict), texts));
+  // which the file is called script. With labels the number and the words of its line stand before each line of an answer;
+  // asLinux places pages as Linux does.
+  schedule(script, { labels = false, strict = false, asLinux = false } = {}) {
+    return this.#call(script, (exports, at, length, texts) => exports.page_schedule(at, length, Number(labels), Number(strict), Number(asLinux), texts));
   }
 
   // The picture that `memcgrun chart` draws, SVG, in the same form.
-  chart(script) {
-    return this.#call(script, (exports, at, length, texts) => exports.page_chart(at, length, texts));
+  chart(script, { asLinux = false } = {}) {
+    return this.#call(script, (exports, at, length, texts) => exports.page_chart(at, length, Number(asLinux), texts));
   }
 
   #call(script, ask) {

@@ -41,12 +41,13 @@ function run(machine) {
   const script = part('script').value;
   const start = performance.now();
   try {
-    const { status, out, err } = machine.schedule(script, { labels: part('labels').checked });
+    const asLinux = part('as_linux').checked;
+    const { status, out, err } = machine.schedule(script, { labels: part('labels').checked, asLinux });
     const took = performance.now() - start;
     part('out').textContent = out;
     part('err').textContent = err;
     part('said').textContent = `${status === 0 ? 'run to its end' : 'not run to its end'}, ${took.toFixed(1)} ms`;
-    showChart(machine.chart(script));
+    showChart(machine.chart(script, { asLinux }));
     showLine(err);
   } catch (fault) {
     part('out').textContent = '';
@@ -90,6 +91,7 @@ async function start() {
   part('run').disabled = false;
   part('run').addEventListener('click', () => run(machine));
   part('labels').addEventListener('change', () => run(machine));
+  part('as_linux').addEventListener('change', () => run(machine));
   part('example').addEventListener('change', () => {
     const example = named(part('example').value);
     if (!example) return;

@@ -14,6 +14,7 @@ struct Text {
 struct Asked {
     labels: bool,
     strict: bool,
+    as_linux: bool,
 }
 
 #[link(name = "memcgrun", kind = "static")]

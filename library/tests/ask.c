@@ -1,5 +1,5 @@
-/* ask CALL FILE [BYTES]: one call of the library. CALL is schedule, labels, strict, chart, table or check. What it gives goes
- * to standard output and standard error, and its status is the exit status. With BYTES the buffers of the first call have
+/* ask CALL FILE [BYTES]: one call of the library. CALL is schedule, labels, strict, chart, table or check, and ends with -as-linux where
+ * pages are to be placed so. What it gives goes to standard output and standard error, and its status is the exit status. With BYTES the buffers of the first call have
  * so many bytes, and what is behind them must stay as it was. ask threads FILE makes that call on several threads at once,
  * many times, and each has to give the same. */
 #include <memcgrun.h>
@@ -22,14 +22,19 @@ static uint8_t *read_all(const char *path, size_t *len)
     return bytes;
 }
 
+static bool begins(const char *call, const char *with)
+{
+    return !strncmp(call, with, strlen(with));
+}
+
 static int whole(const char *call, const uint8_t *script, size_t len)
 {
     struct memcgrun_text out, err;
-    struct memcgrun_asked asked = {.labels = !strcmp(call, "labels"), .strict = !strcmp(call, "strict")};
-    bool table = !strcmp(call, "table");
-    int status = !strcmp(call, "check") ? memcgrun_check(script, len, &out, &err)
-        : table || !strcmp(call, "chart") ? memcgrun_chart(script, len, table, &out, &err)
-                                          : memcgrun_schedule(script, len, asked, &out, &err);
+    bool table = begins(call, "table"), as_linux = strstr(call, "-as-linux");
+    struct memcgrun_asked asked = {.labels = begins(call, "labels"), .strict = begins(call, "strict"), .as_linux = as_linux};
+    int status = begins(call, "check") ? memcgrun_check(script, len, as_linux, &out, &err)
+        : table || begins(call, "chart") ? memcgrun_chart(script, len, table, as_linux, &out, &err)
+                                         : memcgrun_schedule(script, len, asked, &out, &err);
     if (out.bytes)
         fwrite(out.bytes, 1, out.len, stdout);
     if (err.bytes)

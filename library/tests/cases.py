@@ -1,4 +1,4 @@
-"""The cases of crates/cases/data that are run with no option or with --strict, and what each has to give in a call."""
+"""The cases of crates/cases/data that are run with no option, with --strict or with --as-linux, and what each has to give in a call."""
 import glob
 import os
 
@@ -47,7 +47,7 @@ class Case:
 
     @property
     def call(self):
-        return {(): "schedule", ("--strict",): "strict"}.get(tuple(self.options)) if self.is_plain else None
+        return {(): "schedule", ("--strict",): "strict", ("--as-linux",): "schedule-as-linux"}.get(tuple(self.options)) if self.is_plain else None
 
 
 def cases():

@@ -6,8 +6,8 @@ const fail = (what, found) => { if (faults.length < 20) faults.push(`${what}: ${
 const times = {};
 
 function tryCases(machine, cases) {
-  for (const { name, strict, script, status, out, err } of cases) {
-    const found = machine.schedule(script, { strict });
+  for (const { name, strict, asLinux, script, status, out, err } of cases) {
+    const found = machine.schedule(script, { strict, asLinux });
     if (found.status !== status || found.out !== out || found.err !== err) fail(name, found);
   }
 }
@@ -43,6 +43,17 @@ async function tryPage(examples) {
   part('run').click();
   if (part('out').textContent !== '1 7\n') fail('answers', part('out').textContent);
   if (part('err').textContent) fail('no fault', part('err').textContent);
+  await ran();
+
+  const log = examples.find(({ name }) => name === 'service_reads_a_log').script;
+  const lastAnswer = () => part('out').textContent.trimEnd().split('\n').pop();
+  part('script').value = log;
+  part('run').click();
+  if (lastAnswer() !== '0') fail('placed by our own rule', lastAnswer());
+  part('as_linux').checked = true;
+  part('as_linux').dispatchEvent(new Event('change'));
+  if (lastAnswer() !== '40960') fail('placed as Linux does', lastAnswer());
+  part('as_linux').checked = false;
   await ran();
 
   part('script').value = 'group /a\ngroup /a b\ntask 1 /a\n';

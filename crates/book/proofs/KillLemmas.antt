@@ -15,20 +15,12 @@ use Rattle.machine.specs.declared.event.Cause.TheVariants as cause
 use Rattle.machine.specs.declared.event.Event.TheVariants as event
 use Rattle.machine.proofs.Values.{unlike}
 use Rattle.machine.proofs.TreeLemmas.{eq_cases, under_at-None}
-use Rattle.machine.proofs.KillGroupLemmas.{IsHighest, above_parent, kill_group-highest}
+use Rattle.machine.proofs.KillGroupLemmas.{candidate-parts, IsHighest, above_parent, kill_group-highest}
 use Rattle.group_tree.specs.Groups.{IsGroupTree}
 use Rattle.oom.specs.declared.Chosen.{Chosen}
 use Rattle.oom.specs.Chosen.{pair_of}
 use Rattle.page_state.specs.States.{StateOf}
 use Rattle.book.specs.Decisions.{kill_with, kill_of, IsDecided}
-
--- a candidate lives, in a group at or under the limit
-candidate-under : (tree : List Node) (tasks : Tasks) (limit t : ℕ) → is_candidate tree tasks limit t ≡ true → (lives tasks t ≡ true) × (under tree limit (group_of_task tasks t) ≡ true)
-candidate-under tree tasks limit t is = by_slot (task_at tasks t) is
-  where
-    by_slot : (slot : Option Task) → there_and (is_live_under tree limit) slot ≡ true → (there_and is_live_task slot ≡ true) × (under tree limit (group_of slot) ≡ true)
-    by_slot None e = absurd cc
-    by_slot (Some task) e = and_parts (is_live_task task) _ e
 
 -- whatever is above a live group is live
 above-live : (tree : List Node) → IsGroupTree tree → (n a g : ℕ) → g < n → is_live tree g ≡ true → under tree a g ≡ true → is_live tree a ≡ true
@@ -47,7 +39,7 @@ above-live tree is (suc n) a g lt live up =
 pub kill_group-live : (s : State) → IsGroupTree s.tree → ((t : ℕ) → lives s.tasks t ≡ true → is_live s.tree (group_of_task s.tasks t) ≡ true) → (limit victim h : ℕ) → IsVictim s.tree s.tasks s.page_tables limit (Some victim)
     → kill_group_of s.tree s.flags s.tasks limit victim ≡ Some h → is_live s.tree h ≡ true
 kill_group-live s is homes limit victim h worst group =
-    let lives_under = candidate-under s.tree s.tasks limit victim worst.among in
+    let lives_under = candidate-parts s.tree s.tasks limit victim worst.among in
     let highest = subst (IsHighest s.tree is.earlier_parents s.flags limit (group_of_task s.tasks victim)) group (kill_group-highest s.tree is.earlier_parents s.flags limit (group_of_task s.tasks victim) lives_under.1) in
     above-live s.tree is (suc (group_of_task s.tasks victim)) h (group_of_task s.tasks victim) (omega arith) (homes victim lives_under.0) highest.2
 

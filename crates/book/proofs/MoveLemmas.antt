@@ -445,14 +445,14 @@ makes_step-settled_in old new p f b label ticket InFrame single stood ends own =
     makes_step-end old new p ticket.number In label (Coming f b ticket.number) (in_frame old.tables.page_tables p (labelled label (Coming f b ticket.number)) f b) (event.Arrived (record { 0 = ticket.number }) ticket.bytes) stood refl
     (left-test is_in_transfer old.tables.page_tables p (labelled label (Held f)) refl) ends
     (ends-as old new p f b ticket.number In label (λ f b. Coming f b ticket.number) in_frame stood ends)
-    (order-on (entry_after In) old old.order.held new refl ends.held ends.cursors) tt (λ spot. refl)
+    (order-on (entry_after old.tables.opening.placement In) old old.order.held new refl ends.held ends.cursors) tt (λ spot. refl)
     (frame-holders old new p f b ticket.number In label (Coming f b ticket.number) stood ends)
     (λ spot is there. inl (p, label, f, b, is, stood, own refl (frame-there old new p f b ticket.number In label (Coming f b ticket.number) stood ends there) (offset_of spot)))
 makes_step-settled_in old new p f b label ticket OnBlock single stood ends own =
     makes_step-end old new p ticket.number In label (Coming f b ticket.number) (on_block old.tables.page_tables p (labelled label (Coming f b ticket.number)) f b) (event.FetchFailed (record { 0 = ticket.number })) stood refl
     (block-test old new p f b ticket.number In label (Coming f b ticket.number) stood single ends is_in_transfer refl) ends
     (ends-as old new p f b ticket.number In label (λ f b. Coming f b ticket.number) on_block stood ends)
-    (order-on (entry_after In) old old.order.held new refl ends.held ends.cursors) tt (λ spot. refl)
+    (order-on (entry_after old.tables.opening.placement In) old old.order.held new refl ends.held ends.cursors) tt (λ spot. refl)
     (block-holders old new p f b ticket.number In label (Coming f b ticket.number) stood single ends)
     (λ spot is there. unlike _ there (block-test old new p f b ticket.number In label (Coming f b ticket.number) stood single ends (λ (page : Page). is_in_memory page.residence) refl))
 
@@ -463,13 +463,13 @@ makes_step-settled_out old new p f b label ticket InFrame single stood ends own 
     makes_step-end old new p ticket.number Out label (Going f b ticket.number) (in_frame old.tables.page_tables p (labelled label (Going f b ticket.number)) f b) (event.LeaveFailed (record { 0 = ticket.number })) stood refl
     (left-test is_in_transfer old.tables.page_tables p (labelled label (Held f)) refl) ends
     (ends-as old new p f b ticket.number Out label (λ f b. Going f b ticket.number) in_frame stood ends)
-    (order-on (entry_after Out) old old.order.held new refl ends.held ends.cursors) tt (λ spot. refl)
+    (order-on (entry_after old.tables.opening.placement Out) old old.order.held new refl ends.held ends.cursors) tt (λ spot. refl)
     (frame-holders old new p f b ticket.number Out label (Going f b ticket.number) stood ends)
     (λ spot is there. inr (going-known old.tables.pages p f b ticket.number label stood, own refl (frame-there old new p f b ticket.number Out label (Going f b ticket.number) stood ends there) (offset_of spot)))
 makes_step-settled_out old new p f b label ticket OnBlock single stood ends own =
     makes_step-end old new p ticket.number Out label (Going f b ticket.number) (on_block old.tables.page_tables p (labelled label (Going f b ticket.number)) f b) (event.Left (record { 0 = ticket.number })) stood refl
     (block-test old new p f b ticket.number Out label (Going f b ticket.number) stood single ends is_in_transfer refl) ends
     (ends-as old new p f b ticket.number Out label (λ f b. Going f b ticket.number) on_block stood ends)
-    (order-on (entry_after Out) old old.order.held new refl ends.held ends.cursors) tt (λ spot. refl)
+    (order-on (entry_after old.tables.opening.placement Out) old old.order.held new refl ends.held ends.cursors) tt (λ spot. refl)
     (block-holders old new p f b ticket.number Out label (Going f b ticket.number) stood single ends)
     (λ spot is there. unlike _ there (block-test old new p f b ticket.number Out label (Going f b ticket.number) stood single ends (λ (page : Page). is_in_memory page.residence) refl))

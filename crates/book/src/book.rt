@@ -28,7 +28,7 @@ use crate::kept::{Asked, Kept};
 use crate::pass::Pass;
 use files::blocks_for;
 use machine::bytes::PageBytes;
-use machine::config::{Config, FileList, Watermarks};
+use machine::config::{Config, FileList, Placement, Watermarks};
 use machine::entry::Entry;
 use machine::event::Event as PlainEvent;
 use machine::id::{GroupId, TicketId, WorkerId};
@@ -443,6 +443,13 @@ impl Book {
         ensures { result ≡ self.now.state.opening.watermarks }
     {
         self.state.watermarks()
+    }
+
+    /// Where pages enter the generation lists that are read in, which the opening fixed.
+    pub fn placement(&self) -> Placement
+        ensures { result ≡ self.now.state.opening.placement }
+    {
+        self.state.placement()
     }
 
     /// How many passes were given out.

@@ -5,7 +5,7 @@ ghost use Rattle.turns.specs.Tickets.{IsSpendableReply};
 
 use book::{Book, Event, InTicket, OutTicket, Pass, Reply};
 use machine::bytes::PAGE_BYTES;
-use machine::config::{Config, File, FileList, Watermarks};
+use machine::config::{Config, File, FileList, Placement, Watermarks};
 use machine::event::{Op, Place};
 use machine::id::{GroupId, TaskId};
 use machine::text::Text;
@@ -173,6 +173,7 @@ fn after_swap(alloc: Global, lie: Lie) -> Result<(Result<(), First>, usize), Fai
         trace: 100,
         turns: 1000,
         recursive: false,
+        placement: Placement::Own,
     };
     let place = Place::Virtual { page: 0, offset: 0 };
     let path = Text::new(String::from_str(alloc, "/a")?);
@@ -206,6 +207,7 @@ fn after_a_second_read(alloc: Global, lie: Lie) -> Result<(Result<(), First>, us
         trace: 100,
         turns: 1000,
         recursive: false,
+        placement: Placement::Own,
     };
     let place = Place::File {
         file: 0,
@@ -271,6 +273,7 @@ fn what_is_refused_is_kept_and_leaves_no_entry(rt: HostRuntime) -> Result<(), Fa
         trace: 100,
         turns: 1000,
         recursive: false,
+        placement: Placement::Own,
     };
     let made = Text::new(String::from_str(rt.alloc(), "/a")?);
     let sought = Text::new(String::from_str(rt.alloc(), "/b")?);

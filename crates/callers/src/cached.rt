@@ -4,7 +4,7 @@ use block_store::{BlockDevice, MemDevice};
 use driver::run;
 use machine::bytes::PAGE_BYTES;
 use machine::command::{Actor, Answer, Command, Reply, Step};
-use machine::config::{Config, File, FileList, Watermarks};
+use machine::config::{Config, File, FileList, Placement, Watermarks};
 use machine::event::{Op, Place};
 use machine::text::Text;
 use std::alloc::AllocError;
@@ -24,6 +24,7 @@ pub fn machine<R: AllocGlobal>(rt: &R) -> Result<Config, AllocError> {
         trace: 100,
         turns: 1000,
         recursive: false,
+        placement: Placement::Own,
     })
 }
 

@@ -6,7 +6,7 @@ ghost use Rattle.machine.specs.declared.record.Direction.TheVariants.{In};
 
 use crate::shared::{is_alive, shown};
 use files::blocks_for;
-use machine::config::{Config, File, FileList, Watermarks};
+use machine::config::{Config, File, FileList, Placement, Watermarks};
 use machine::id::{GroupId, TaskId, TicketId};
 use machine::record::Direction;
 use machine::text::Text;
@@ -33,6 +33,7 @@ fn open<R: Abort + AllocGlobal>(rt: &R) -> Result<State, AllocError> {
         trace: 1,
         turns: 1000,
         recursive: false,
+        placement: Placement::Own,
     };
     assert!(rt; blocks_for(&config).is_some());
     State::open(rt.alloc(), config)

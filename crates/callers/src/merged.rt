@@ -3,7 +3,7 @@
 ghost use Rattle.std.specs.Prelude.{◌≡◌, ◌<◌};
 
 use book::{Book, Event, Pass, Reply};
-use machine::config::{Config, FileList, Watermarks};
+use machine::config::{Config, FileList, Placement, Watermarks};
 use machine::event::{Op, Place};
 use machine::id::{GroupId, TaskId};
 use machine::refusal::Refusal;
@@ -23,6 +23,7 @@ fn open(alloc: Global, trace: u32) -> Result<Book, Refusal> {
             trace,
             turns: 1000,
             recursive: false,
+            placement: Placement::Own,
         },
     )
 }

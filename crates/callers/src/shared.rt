@@ -6,7 +6,7 @@ ghost use Rattle.machine.specs.Pages.{is_held_in};
 ghost use Rattle.machine.specs.Tasks.{is_live_life, lives, mapped_at};
 
 use files::blocks_for;
-use machine::config::{Config, FileList, Watermarks};
+use machine::config::{Config, FileList, Placement, Watermarks};
 use machine::id::{GroupId, PageId, TaskId};
 use machine::record::Life;
 use page_state::State;
@@ -29,6 +29,7 @@ fn open<R: Abort + AllocGlobal>(rt: &R) -> Result<State, AllocError> {
         trace: 1,
         turns: 1000,
         recursive: false,
+        placement: Placement::Own,
     };
     assert!(rt; blocks_for(&config).is_some());
     State::open(rt.alloc(), config)

@@ -20,7 +20,7 @@ use std::io::Write;
 use std::sync::Wait;
 use std::thread::Threads;
 use subcommands::{
-    Options, read_and_check, run_script, run_script_on_threads, status_of, status_of_run,
+    Options, Placement, read_and_check, run_script, run_script_on_threads, status_of, status_of_run,
 };
 
 /// What stands behind the answers of a run with an audit, and of one on threads.
@@ -207,7 +207,11 @@ impl Case {
         let mut out = Vec::new(alloc);
         let mut err = Vec::new(alloc);
         let script = self.script.as_bytes();
-        let ran = run_script_on_threads(rt, alloc, Options::default(), FILE, script, &mut out);
+        let options = Options {
+            placement: self.options.placement,
+            ..Options::default()
+        };
+        let ran = run_script_on_threads(rt, alloc, options, FILE, script, &mut out);
         let status = status_of_run(ran, &mut err);
         if self.is_audited(status, &out) {
             return Ok(true);
@@ -233,7 +237,8 @@ impl Case {
         let mut out = Vec::new(alloc);
         let mut err = Vec::new(alloc);
         let mut script = self.script.as_bytes();
-        let status = read_and_check(alloc, FILE, &mut script, &mut out, &mut err);
+        let placement = self.options.placement;
+        let status = read_and_check(alloc, placement, FILE, &mut script, &mut out, &mut err);
         out.extend_from_slice(&err)?;
         if self.is_checked(status, &out) {
             return Ok(());
@@ -246,6 +251,7 @@ impl Case {
 /// Asks for what the option of this name does.
 fn ask_for(options: &mut Options, name: &str) {
     match name {
+        "--as-linux" => options.placement = Placement::Linux,
         "--audit" => options.audit = true,
         "--explain" => options.explain = true,
         "--labels" => options.labels = true,

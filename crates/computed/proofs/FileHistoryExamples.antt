@@ -1,6 +1,7 @@
 -- An example of a whole history of a page of a file: a task of one group reads it in, one of another writes to it, it is written to its home, and is read in from there for the other group.
 use Rattle.std.proofs.Common.{◌≡◌, ◌≢◌, ℕ, zero, suc, ◌+◌, ◌<◌, ◌==◌, ◌&&◌, ne_eqb, cond, true, false, List, [], ◌∷◌, length, Option, Some, None, refl, arith}
 use Rattle.std.specs.Prelude.{codes, slice_index}
+use Rattle.machine.specs.declared.config.Placement.TheVariants.{Own}
 use Rattle.machine.specs.declared.entry.Entry.{Entry}
 use Rattle.machine.specs.declared.event.Op.{Op}
 use Rattle.machine.specs.declared.event.Op.TheVariants.{Read, Write}
@@ -87,7 +88,7 @@ h14 = on 0 h13 (access 2 Read) (reply.Done 9 (Some (frame 2)))
 
 -- 4 frames and no swap block. File 0 has 1 page, and file 1 has 2: the home of its page 1 is block 2
 abbrev fixed : Opening
-fixed = record { frames = 4; swap = 0; files = 1 ∷ 2 ∷ []; watermarks = record { low = 0; high = 0 }; trace_limit = 14; recursive = false }
+fixed = record { frames = 4; swap = 0; files = 1 ∷ 2 ∷ []; watermarks = record { low = 0; high = 0 }; trace_limit = 14; recursive = false; placement = Own }
 
 abbrev with_a : State
 with_a = record (first_state fixed) { tree = root ∷ below 0 (codes "/a") ∷ []; limits = no_limits ∷ no_limits ∷ []; flags = single 2; counted = no_counts ∷ no_counts ∷ [] }

@@ -1,10 +1,12 @@
 -- Examples: how the lists of the held pages go on where pages come and go. What does not come of an event is shown not to.
 use Rattle.std.proofs.Common.{◌≡◌, ℕ, zero, suc, ◌&&◌, ◌++◌, Bool, true, false, List, [], ◌∷◌, length, Option, Some, None, refl, ap, ◌∙◌, arith}
 use Rattle.std.specs.Prelude.{codes, slice_index_or}
+use Rattle.machine.specs.declared.config.Placement.TheVariants.{Own, Linux}
 use Rattle.machine.specs.declared.event.Op.TheVariants.{Write}
 use Rattle.machine.specs.declared.event.Place.TheVariants.{Virtual}
 use Rattle.machine.specs.declared.event.Event.{Event}
 use Rattle.machine.specs.declared.event.Event.TheVariants as event
+use Rattle.machine.specs.declared.record.Kind.TheVariants.{Anon, File}
 use Rattle.machine.specs.declared.record.Life.TheVariants.{Live, Exited}
 use Rattle.machine.specs.declared.record.OomGroup.TheVariants.{Single}
 use Rattle.machine.specs.declared.reply.Reply.{Reply}
@@ -18,7 +20,7 @@ use Rattle.machine.specs.Counts.{no_limits, no_counts}
 use Rattle.machine.specs.Order.{cursor_at}
 use Rattle.machine.specs.Generations.{Listed, Gens, new_gens, gens_at}
 use Rattle.machine.specs.Aging.{is_marked}
-use Rattle.machine.specs.Lists.{HeldLists, Order, Youngest, SecondYoungest, is_fresh, GoesOn, Orders}
+use Rattle.machine.specs.Lists.{HeldLists, Order, Youngest, SecondYoungest, ByType, second_oldest, seq_in, generation_for, is_fresh, GoesOn, Orders}
 use Rattle.legal.proofs.OrdersLemmas.{goes_on_alike, orders_alike}
 use Rattle.computed.proofs.ExampleStates.{task, ticket, memory, of_file, pages, busy, listed_at, young, searched, lists_of, ordered, none_served, stuck}
 use Rattle.computed.proofs.CallExamples.{not_new, other_number, none_marked, stay_unmarked}
@@ -200,6 +202,35 @@ arrives-file = record { fresh = Some 2; which = which; groups = refl; size = ref
     marks zero = refl
     marks (suc zero) = refl
     marks (suc (suc p)) = stay_unmarked 8 (is_held_in file_comes (suc (suc p))) (is_held_in file_came (suc (suc p))) p
+
+-- ---- where what was read in enters
+
+-- by type memory enters the youngest generation, and a page of a file the second oldest of four
+by_type-memory : seq_in ByType Anon new_gens ≡ 3
+by_type-memory = refl
+
+by_type-file : seq_in ByType File new_gens ≡ 1
+by_type-file = refl
+
+-- of three or two the oldest
+by_type-three : second_oldest 3 1 ≡ 1
+by_type-three = refl
+
+by_type-two : second_oldest 5 4 ≡ 4
+by_type-two = refl
+
+placed-own : generation_for Own (event.Arrived (ticket 7) []) ≡ SecondYoungest
+placed-own = refl
+
+placed-linux : generation_for Linux (event.Arrived (ticket 7) []) ≡ ByType
+placed-linux = refl
+
+-- what could not be written out, and what is made, enters the youngest by either
+failed-linux : generation_for Linux (event.LeaveFailed (ticket 8)) ≡ Youngest
+failed-linux = refl
+
+made-linux : generation_for Linux (event.Access (task 1) (Virtual 0 0) (Write 7)) ≡ Youngest
+made-linux = refl
 
 -- ---- a page that is written out
 

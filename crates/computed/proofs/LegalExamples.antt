@@ -1,5 +1,6 @@
 -- An example of a whole history: a page is written, written out, read in and read. A merge of marks is shown to be no entry of one.
 use Rattle.std.proofs.Common.{◌≡◌, ◌≢◌, ℕ, zero, suc, ◌==◌, ◌&&◌, true, false, List, [], ◌∷◌, Some, None, refl, arith}
+use Rattle.machine.specs.declared.config.Placement.TheVariants.{Own}
 use Rattle.machine.specs.declared.entry.Entry.{Entry}
 use Rattle.machine.specs.declared.event.Op.{Op}
 use Rattle.machine.specs.declared.event.Op.TheVariants.{Read, Write}
@@ -61,7 +62,7 @@ h7 = entry 0 5 (access Read) (reply.Done 5 (Some (frame 2))) ∷ h6
 
 -- 4 frames, 5 swap blocks, and room for so many entries
 abbrev pub small : ℕ → Opening
-small limit = record { frames = 4; swap = 5; files = []; watermarks = record { low = 0; high = 0 }; trace_limit = limit; recursive = false }
+small limit = record { frames = 4; swap = 5; files = []; watermarks = record { low = 0; high = 0 }; trace_limit = limit; recursive = false; placement = Own }
 
 -- task 1 runs in the root
 abbrev pub spawned : ℕ → State

@@ -2,6 +2,7 @@
 use Rattle.std.proofs.Common.{◌≡◌, ◌≢◌, ℕ, zero, suc, ◌<◌, ◌==◌, ◌&&◌, ◌||◌, Bool, true, false, List, [], ◌∷◌, ◌++◌, length, Option, Some, None, refl, sym, ap, ◌∙◌, subst, arith}
 use Rattle.std.specs.Prelude.{codes, option_map}
 use Rattle.std.proofs.lemmas.Bool.{eqb-false}
+use Rattle.machine.specs.declared.config.Placement.TheVariants.{Own}
 use Rattle.machine.specs.declared.event.Cause.TheVariants as cause
 use Rattle.machine.specs.declared.event.Op.TheVariants.{Read, Write}
 use Rattle.machine.specs.declared.event.Place.TheVariants.{Virtual}
@@ -31,7 +32,7 @@ use Rattle.computed.proofs.CallExamples.{caller, past, after, not_new, other_num
 
 -- 4 frames, and 4 swap blocks
 abbrev small : Opening
-small = record { frames = 4; swap = 4; files = []; watermarks = record { low = 0; high = 0 }; trace_limit = 40; recursive = false }
+small = record { frames = 4; swap = 4; files = []; watermarks = record { low = 0; high = 0 }; trace_limit = 40; recursive = false; placement = Own }
 
 -- task 1 of group 1, which has a max of 3, shows these pages
 abbrev state : List (Option Page) → PageTable → State

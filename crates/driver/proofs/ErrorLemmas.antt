@@ -47,7 +47,7 @@ use Rattle.driver.specs.declared.seat.Outcome.{Outcome}
 use Rattle.driver.specs.declared.seat.Outcome.TheVariants as outcome
 use Rattle.driver.specs.declared.seat.Activity.{Activity}
 use Rattle.driver.specs.declared.seat.Activity.TheVariants.{Rests, Begun, Does}
-use Rattle.turns.specs.Turns.{wants_pages, done, byte_answer, ends_refused, resumes_at, Tried, MadeRoom, MaxSet, Lowered, Reclaimed, Balanced, Made, TaskDid, WasShown, Closed, Told, ReadsIn, WritesOut, after_read, after_write, Judged, with_group, with_file, with_amount, with_flag, reads_file, writes_file, reclaims, task_judged, shell_judged, daemon_judged, paths_of, judged}
+use Rattle.turns.specs.Turns.{wants_pages, done, byte_answer, ends_refused, resumes_at, arrived, Tried, MadeRoom, MaxSet, Lowered, Reclaimed, Balanced, Made, TaskDid, WasShown, Closed, Told, ReadsIn, WritesOut, after_read, after_write, Judged, with_group, with_file, with_amount, with_flag, reads_file, writes_file, reclaims, task_judged, shell_judged, daemon_judged, paths_of, judged}
 use Rattle.driver.specs.Schedule.{World, first_world, activity_of, with_activity, outcome_of, left_of, WantTurn, wants_at, StageTurn, JudgedTurn, ActivityTurn, said_at, all_said, Goings, EndsIn, RunsOut, Begins, Stepped, Runs, is_error, errors}
 use Rattle.driver.specs.Hands.{owes_at, owes, errors_owed}
 use Rattle.machine.proofs.SlotLemmas.{one_if}
@@ -180,7 +180,7 @@ told-cost pending.Balance said transition h fine = balanced-cost said transition
 told-cost pending.Make said transition h fine = made-cost said transition h
 told-cost pending.OfTask said transition h fine = did-cost said transition h
 told-cost pending.Show said transition h fine = shown-cost said transition h
-told-cost (pending.Arrive access) said transition h fine = closed-cost (Goes (stage.Try access)) said transition h fine
+told-cost (pending.Arrive access) said transition h fine = closed-cost (Goes (stage.Try (arrived access))) said transition h fine
 told-cost pending.FetchFail said transition h fine = closed-cost (Ends (answer.Word word.Io)) said transition h fine
 told-cost (pending.Leave on) said transition h fine = closed-cost (Goes (resumes_at on)) said transition h fine ∙ on-cost on
 told-cost pending.LeaveFail said transition h fine = closed-cost (Ends (answer.Word word.Io)) said transition h fine

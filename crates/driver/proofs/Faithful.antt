@@ -600,7 +600,7 @@ module _ (files : FirstBytes) (caller : Caller) (opening : Opening) (old new : P
       let asks = turn.0 in
       let mid = asked_faithful files caller opening old asks.mid disk disk' h remembers what asks.said transition fine.0 keeps brings asks.called asks.gives asks.told in
       subst (λ (d : Disk). TurnsFaithful files caller opening old disk.contents (want.Call remembers what) transition new d.contents) (sym turn.1)
-      (subst (λ (p : Past). TurnsFaithful files caller opening old disk.contents (want.Call remembers what) transition p disk.contents) (sym (stays-as asks.mid new (marks-stay caller asks.mid new (reply_of asks.said) asks.marks)))
+      (subst (λ (p : Past). TurnsFaithful files caller opening old disk.contents (want.Call remembers what) transition p disk.contents) (sym (stays-as asks.mid new (marks-stay _ caller asks.mid new (reply_of asks.said) asks.marks)))
       (turn_order files disk.contents asks.mid new.order caller opening old disk.contents (want.Call remembers what) transition mid))
   want_faithful (want.Read access ticket) transition fine keeps brings turn =
       subst (λ (p : Past). TurnsFaithful files caller opening old disk.contents (want.Read access ticket) transition p disk'.contents) (sym turn.1) (reads_faithful files caller opening old disk disk' h access ticket transition turn.0)

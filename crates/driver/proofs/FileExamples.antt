@@ -8,6 +8,7 @@ use Rattle.machine.specs.declared.record.OomGroup.TheVariants.{Single}
 use Rattle.machine.specs.declared.amount.Amount.TheVariants as amount
 use Rattle.machine.specs.declared.event.Cause.TheVariants as cause
 use Rattle.machine.specs.declared.config.Watermarks.{Watermarks}
+use Rattle.machine.specs.declared.config.Placement.TheVariants.{Own}
 use Rattle.machine.specs.declared.command.Actor.TheVariants as actor
 use Rattle.machine.specs.declared.command.Answer.TheVariants as answer
 use Rattle.machine.specs.declared.command.Command.TheVariants as command
@@ -44,7 +45,7 @@ use Rattle.turns.specs.declared.turn.Resume.TheVariants as resume
 use Rattle.turns.specs.declared.turn.Stage.TheVariants as stage
 use Rattle.turns.specs.declared.turn.Transition.TheVariants as transition
 use Rattle.turns.specs.declared.turn.Want.TheVariants as want
-use Rattle.turns.specs.Turns.{wants, Told, resumes_at, judged}
+use Rattle.turns.specs.Turns.{wants, Told, resumes_at, arrived, judged}
 use Rattle.driver.specs.Schedule.{World, Turn, outcome_of, left_of}
 use Rattle.driver.proofs.TurnExamples.{lists, order, caller, disk as no_disk, after}
 use Rattle.driver.proofs.TaskExamples.{r, tree}
@@ -58,7 +59,7 @@ cached residence = record { content = OfFile 0 0; group = 1; dirty = false; resi
 -- 2 frames, no swap, and one file of one page, whose home is the device's first block; task 1 is of /r
 abbrev with_pages : Pages → State
 with_pages pages = record {
-  opening = record { frames = 2; swap = 0; files = 1 ∷ []; watermarks = record { low = 0; high = 0 }; trace_limit = 8; recursive = false };
+  opening = record { frames = 2; swap = 0; files = 1 ∷ []; watermarks = record { low = 0; high = 0 }; trace_limit = 8; recursive = false; placement = Own };
   tree = tree;
   limits = no_limits ∷ no_limits ∷ [];
   flags = Single ∷ Single ∷ [];
@@ -75,7 +76,7 @@ abbrev held : Pages
 held = Some (cached (Held 0)) ∷ []
 
 abbrev access : Access
-access = record { task = record { 0 = 1 }; place = File 0 0 5; op = Read }
+access = record { task = record { 0 = 1 }; place = File 0 0 5; op = Read; fetched = false }
 
 abbrev number : TicketId
 number = record { 0 = 0 }
@@ -198,9 +199,9 @@ module _ (bytes : List ℕ) where
   stands (suc m) other = refl
 
   -- the book is told, and the page stands in its frame, clean
-  arrives : Turn (world once_fetched (Does (stage.Arrive access (ticket_with bytes)))) (actor.Task 1) Goes (world once_arrived (Does (stage.Try access)))
+  arrives : Turn (world once_fetched (Does (stage.Arrive access (ticket_with bytes)))) (actor.Task 1) Goes (world once_arrived (Does (stage.Try (arrived access))))
   arrives = record {
-    transition = transition.Goes (stage.Try access);
+    transition = transition.Goes (stage.Try (arrived access));
     turns = (
       record {
         said = says.Ok;
@@ -259,7 +260,7 @@ module _ (bytes : List ℕ) where
   once_hit byte = record (once_read byte) { order = once_arrived.order }
 
   -- the access is tried again, hits the page, and is told a byte: that it is the home's, a whole run says. The page is marked in the same turn
-  hits : (byte : ℕ) → Turn (world once_arrived (Does (stage.Try access))) (actor.Task 1) (Ends (answer.Byte byte)) (world (once_read byte) Rests)
+  hits : (byte : ℕ) → Turn (world once_arrived (Does (stage.Try (arrived access)))) (actor.Task 1) (Ends (answer.Byte byte)) (world (once_read byte) Rests)
   unfolding chain_up chain under_at over_at
   hits byte = record {
     transition = transition.Ends (answer.Byte byte);

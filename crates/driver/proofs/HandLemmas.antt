@@ -200,7 +200,7 @@ want_hands : (caller : Caller) (opening : Opening) (old new : Past) (legal : Leg
     → WantTurn caller old disk wanted transition new disk' → HandsOn old wanted transition new
 want_hands caller opening old new legal disk disk' (want.Call remembers what) transition paired fine keeps turn =
     let asks = turn.0 in
-    marked_hands caller opening old new legal asks.mid (want.Call remembers what) transition (marks-stay caller asks.mid new (reply_of asks.said) asks.marks)
+    marked_hands caller opening old new legal asks.mid (want.Call remembers what) transition (marks-stay _ caller asks.mid new (reply_of asks.said) asks.marks)
     (asked_hands caller opening old asks.mid legal remembers what asks.said transition paired fine.0 keeps asks.told
     (called_comes old asks.mid caller (event_of what) (reply_of asks.said) (of_command-leaves what fine.0) (pending_known caller old what keeps) asks.called))
 want_hands caller opening old new legal disk disk' (want.Read access ticket) transition paired fine keeps turn = read_hands caller opening old new legal disk disk' access ticket transition turn.1 turn.0

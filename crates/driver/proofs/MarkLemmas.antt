@@ -25,9 +25,10 @@ merged-stays caller old new word bits called = by_room (is_trace_full old (event
 stays-same : (old new : Past) → new ≡ old → Stays old new
 stays-same old new e = record { state = ap (λ (p : Past). p.state) e; history = ap (λ (p : Past). p.history) e; passes = ap (λ (p : Past). p.passes) e }
 
-pub marks-stay : (caller : Caller) (old new : Past) (said : Reply) → MarksAfter caller old said new → Stays old new
-marks-stay caller old new (reply.Done byte (Some frame)) h = merged-stays caller old new _ h.bits h.merged
-marks-stay caller old new said h = stays-same old new h
+pub marks-stay : (marks : Bool) (caller : Caller) (old new : Past) (said : Reply) → MarksAfter marks caller old said new → Stays old new
+marks-stay true caller old new (reply.Done byte (Some frame)) h = merged-stays caller old new _ h.bits h.merged
+marks-stay false caller old new (reply.Done byte (Some frame)) h = stays-same old new h
+marks-stay marks caller old new said h = stays-same old new h
 
 -- and so it is the past that it was, with another order
 pub stays-as : (old new : Past) → Stays old new → new ≡ record old { order = new.order }

@@ -1,6 +1,7 @@
 -- Examples of groups that are removed: one whose task has gone, whose pages are its parent's then; and what removals are refused.
 use Rattle.std.proofs.Common.{◌≡◌, ℕ, zero, suc, true, false, List, [], ◌∷◌, Some, None, refl}
 use Rattle.std.specs.Prelude.{codes, Ok, Err, option_map}
+use Rattle.machine.specs.declared.config.Placement.TheVariants.{Own}
 use Rattle.machine.specs.declared.record.OomGroup.TheVariants.{Single}
 use Rattle.machine.specs.declared.command.Actor.TheVariants as actor
 use Rattle.machine.specs.declared.command.Command.{Command}
@@ -46,7 +47,7 @@ tables = [] ∷ (Some (record { 0 = 0 }) ∷ Some (record { 0 = 1 }) ∷ []) ∷
 -- task 1 is of the group h, and both pages are of the group g
 abbrev with_groups : List Node → ℕ → ℕ → State
 with_groups groups h g = record {
-  opening = record { frames = 2; swap = 1; files = []; watermarks = record { low = 0; high = 0 }; trace_limit = 8; recursive = false };
+  opening = record { frames = 2; swap = 1; files = []; watermarks = record { low = 0; high = 0 }; trace_limit = 8; recursive = false; placement = Own };
   tree = groups;
   limits = no_limits ∷ no_limits ∷ [];
   flags = Single ∷ Single ∷ [];

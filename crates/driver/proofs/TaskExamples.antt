@@ -1,6 +1,7 @@
 -- Examples of what tasks are told: one forks, the child is moved, and the parent frees the page that both show; and who may not be told so.
 use Rattle.std.proofs.Common.{◌≡◌, ◌≢◌, ℕ, zero, suc, ◌==◌, ◌&&◌, true, false, List, [], ◌∷◌, Some, None, refl}
 use Rattle.std.specs.Prelude.{codes, Ok, Err}
+use Rattle.machine.specs.declared.config.Placement.TheVariants.{Own}
 use Rattle.machine.specs.declared.record.OomGroup.TheVariants.{Single}
 use Rattle.machine.specs.declared.command.Actor.{Actor}
 use Rattle.machine.specs.declared.command.Actor.TheVariants as actor
@@ -53,7 +54,7 @@ tree = root ∷ record { parent = Some 0; path = codes "/r"; live = true } ∷ [
 
 abbrev with_tasks : Tasks → PageTables → State
 with_tasks tasks tables = record {
-  opening = record { frames = 2; swap = 1; files = []; watermarks = record { low = 0; high = 0 }; trace_limit = 8; recursive = false };
+  opening = record { frames = 2; swap = 1; files = []; watermarks = record { low = 0; high = 0 }; trace_limit = 8; recursive = false; placement = Own };
   tree = tree;
   limits = no_limits ∷ no_limits ∷ [];
   flags = Single ∷ Single ∷ [];

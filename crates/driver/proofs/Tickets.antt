@@ -415,7 +415,7 @@ module _ (caller : Caller) (opening : Opening) (old new : Past) (legal : LegalPa
   pub want_turn : (disk disk' : Disk) (want : Want) (transition : Transition) → FineWant want → KeepsWanted caller old want → WantTurn caller old disk want transition new disk' → TurnsWell caller opening old want transition new
   want_turn disk disk' (want.Call remembers what) transition fine keeps turn =
       let asks = turn.0 in
-      marks_turn caller opening old asks.mid new (want.Call remembers what) transition (marks-stay caller asks.mid new (reply_of asks.said) asks.marks)
+      marks_turn caller opening old asks.mid new (want.Call remembers what) transition (marks-stay _ caller asks.mid new (reply_of asks.said) asks.marks)
       (asked_turn caller opening old asks.mid legal remembers what asks.said transition fine.0 keeps asks.called asks.gives asks.told)
   want_turn disk disk' (want.Read access ticket) transition fine keeps turn = reads_turn caller opening old new legal disk disk' access ticket transition keeps turn.1 turn.0
   want_turn disk disk' (want.Write on ticket) transition fine keeps turn = writes_turn caller opening old new legal disk disk' on ticket transition keeps turn.1 turn.0

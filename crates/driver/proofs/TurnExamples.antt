@@ -1,6 +1,7 @@
 -- An example of a finish: a max is set in one turn, and in the next one nothing has to leave.
 use Rattle.std.proofs.Common.{◌≡◌, ℕ, zero, suc, inl, true, false, [], ◌∷◌, ◌++◌, Some, None, refl, arith}
 use Rattle.std.specs.Prelude.{codes}
+use Rattle.machine.specs.declared.config.Placement.TheVariants.{Own}
 use Rattle.machine.specs.declared.record.OomGroup.TheVariants.{Single}
 use Rattle.machine.specs.declared.amount.Amount.TheVariants as amount
 use Rattle.machine.specs.declared.command.Actor.TheVariants as actor
@@ -37,7 +38,7 @@ r = record { 0 = 1 }
 -- the root, and /r below it, which is group 1. Nobody has a page
 abbrev empty : State
 empty = record {
-  opening = record { frames = 2; swap = 0; files = []; watermarks = record { low = 0; high = 0 }; trace_limit = 8; recursive = false };
+  opening = record { frames = 2; swap = 0; files = []; watermarks = record { low = 0; high = 0 }; trace_limit = 8; recursive = false; placement = Own };
   tree = root ∷ record { parent = Some 0; path = codes "/r"; live = true } ∷ [];
   limits = no_limits ∷ no_limits ∷ [];
   flags = Single ∷ Single ∷ [];

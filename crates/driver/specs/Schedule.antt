@@ -1,5 +1,5 @@
 -- Schedules: a row of worlds, one step of the schedule between neighbours, over one book and one device. A step takes one actor's turns, or none.
-use Rattle.std.specs.Prelude.{◌≡◌, ◌⊎◌, ℕ, ◌+◌, ◌/◌, ◌%◌, ◌<◌, ◌==◌, ◌&&◌, nat_le, Bool, true, false, if◌then◌else◌, List, [], ◌∷◌, ◌++◌, length, slice_index, count_by, Some, Ok, Err}
+use Rattle.std.specs.Prelude.{◌≡◌, ◌⊎◌, ℕ, ◌+◌, ◌/◌, ◌%◌, ◌<◌, ◌==◌, ◌&&◌, nat_le, Bool, true, false, MatchBool, if◌then◌else◌, List, [], ◌∷◌, ◌++◌, length, slice_index, count_by, Some, Ok, Err}
 use Rattle.std.specs.Int.{bit_at}
 use Rattle.machine.specs.declared.config.Config.{Config}
 use Rattle.machine.specs.declared.command.Actor.{Actor}
@@ -34,7 +34,7 @@ use Rattle.machine.specs.Pages.{home_block}
 use Rattle.machine.specs.State.{sizes_of, opening_of, blocks_of, is_config, free_frames}
 use Rattle.machine.specs.History.{at_first, Honest, Right}
 use Rattle.machine.specs.Call.{Past, first_past, Caller, Called}
-use Rattle.turns.specs.Turns.{wants, Told, resumes_at, kill_answer, ReadsIn, WritesOut, Judged, judged, ends_refused, answer_by}
+use Rattle.turns.specs.Turns.{wants, Told, marks_hit, resumes_at, kill_answer, ReadsIn, WritesOut, Judged, judged, ends_refused, answer_by}
 
 -- ---- what the actors are at
 
@@ -98,13 +98,13 @@ pub record MarksHit (caller : Caller) (old : Past) (frame : ℕ) (new : Past) : 
   pub one : (f : ℕ) → f / 64 ≡ frame / 64 → bit_at bits (f % 64) ≡ (if f == frame then 1 else 0)
   pub merged : Called old caller (event.MergeMarks (frame / 64) bits) plain.Ok new
 
--- what comes of a reply before the turn ends: a page that was hit is marked, and nothing else happens
-abbrev pub MarksAfter : Caller → Past → Plain_reply → Past → Type 0
-MarksAfter caller old (plain.Done byte (Some frame)) new = MarksHit caller old frame.0 new
-MarksAfter caller old said new = new ≡ old
+-- what comes of a reply before the turn ends: a page that was hit is marked, if it is to be, and nothing else happens
+abbrev pub MarksAfter : Bool → Caller → Past → Plain_reply → Past → Type 0
+MarksAfter marks caller old (plain.Done byte (Some frame)) new = MatchBool marks (MarksHit caller old frame.0 new) (new ≡ old)
+MarksAfter marks caller old said new = new ≡ old
 
 -- the caller asks the book one event; and what the command makes of the reply. A ticket that is given out is that of a page in transfer, and none is lost. A page that was hit is marked
--- in the same turn. (Excludes a turn without its event, and one with two, but for the merge behind a hit.)
+-- in the same turn, but one of a file that an access had read in, as Linux has it. (Excludes a turn without its event, and one with two, but for the merge behind a hit.)
 pub record Asks (caller : Caller) (old : Past) (remembers : Pending) (what : Event) (transition : Transition) (new : Past) : Type 0 where
   pub said : Reply
   pub mid : Past
@@ -112,7 +112,7 @@ pub record Asks (caller : Caller) (old : Past) (remembers : Pending) (what : Eve
   pub gives : HandsOut mid caller.worker said
   pub keeps : KeepsTicket caller.worker what said
   pub told : Told remembers said transition
-  pub marks : MarksAfter caller mid (reply_of said) new
+  pub marks : MarksAfter (marks_hit old.state.opening.placement remembers) caller mid (reply_of said) new
 
 -- a turn asks the book or the device, and leaves the other as it was; or it asks neither, and the command ends. (Excludes an EIO without a call of the
 -- device that failed.)

@@ -89,7 +89,8 @@ impl Desk {
         ensures seats { self.new.seats ≡ self.old.seats }
         ensures limit { self.new.turns ≡ self.old.turns }
     {
-        let reply = self.book.call(&mut self.pass, event);
+        let marks = pending.marks_hit(self.book.placement());
+        let reply = self.book.call(&mut self.pass, event, marks);
         told(self.alloc, pending, reply)
     }
 

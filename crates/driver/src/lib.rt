@@ -6,7 +6,7 @@
 #![tactic(auto)]
 
 pub use machine::command::{Actor, Answer, Command, Reply, Step, Word};
-pub use machine::config::Config;
+pub use machine::config::{Config, Placement};
 pub use schedule::{run, run_into};
 pub use schedules::{Entry, Line, Schedule, Steps};
 pub use sink::{Closed, Sink, Stop};

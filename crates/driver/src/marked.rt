@@ -16,7 +16,7 @@ ghost use Rattle.turns.specs.Tickets.{blocks_in, OwnEvent, OwnReply, IsHanded};
 use crate::calls;
 use crate::hits::HitMarks;
 use book::{Book, Event, Pass, Reply};
-use machine::config::{Config, Watermarks};
+use machine::config::{Config, Placement, Watermarks};
 use machine::refusal::Refusal;
 use std::alloc::{AllocError, Global};
 use std::marker::Model;
@@ -81,6 +81,13 @@ impl MarkedBook {
         self.book.watermarks()
     }
 
+    /// Where pages enter the generation lists that are read in, as the book says.
+    pub fn placement(&self) -> Placement
+        ensures { result ≡ self.now.state.opening.placement }
+    {
+        self.book.placement()
+    }
+
     /// Nothing is done: what holds of the book's history.
     pub fn history_is_right(&self)
         ensures legal { Legal self.now.state.opening self.now.history self.now.state }
@@ -99,12 +106,13 @@ impl MarkedBook {
         self.book.pass()
     }
 
-    /// One event of the book, by a pass that is current, as [`calls::call`] asks it. A page that it hits is marked.
-    pub fn call(&mut self, pass: &mut Pass, event: Event) -> Reply
+    /// One event of the book, by a pass that is current, as [`calls::call`] asks it. A page that it hits is marked, if
+    /// it is to be.
+    pub fn call(&mut self, pass: &mut Pass, event: Event, marks: bool) -> Reply
         requires current { is_current self.old pass.old ≡ true }
         requires room { 2 ≤ pass.old.room }
         requires own { OwnEvent pass.old.caller.worker (blocks_in self.old.state.opening) event }
-        ensures called { (mid : Past) × Called self.old pass.old.caller (event_of event) (reply_of result) mid × HandsOut mid pass.old.caller.worker result × MarksAfter pass.old.caller mid (reply_of result) self.new }
+        ensures called { (mid : Past) × Called self.old pass.old.caller (event_of event) (reply_of result) mid × HandsOut mid pass.old.caller.worker result × MarksAfter marks pass.old.caller mid (reply_of result) self.new }
         ensures keeps { KeepsTicket pass.old.caller.worker event result }
         ensures replies { Replies event result }
         ensures own { OwnReply pass.old.caller.worker (blocks_in self.old.state.opening) result }
@@ -115,16 +123,16 @@ impl MarkedBook {
         ensures opening { self.new.state.opening ≡ self.old.state.opening }
     {
         let reply = calls::call(&mut self.book, pass, event);
-        self.mark_hit(pass, &reply);
+        self.mark_hit(pass, &reply, marks);
         reply
     }
 
-    /// The page that the reply says was hit, if it says so, is marked.
-    fn mark_hit(&mut self, pass: &mut Pass, reply: &Reply)
+    /// The page that the reply says was hit, if it says so, is marked, if it is to be.
+    fn mark_hit(&mut self, pass: &mut Pass, reply: &Reply, marks: bool)
         requires within { HitsWithin self.old.state.opening.frames reply.now }
         requires current { is_current self.old pass.old ≡ true }
         requires room { 0 < pass.old.room }
-        ensures marks { MarksAfter pass.old.caller self.old (reply_of reply.now) self.new }
+        ensures marks { MarksAfter marks pass.old.caller self.old (reply_of reply.now) self.new }
         ensures pass { pass.new ≡ pass.old }
         ensures current { is_current self.new pass.new ≡ true }
         ensures opening { self.new.state.opening ≡ self.old.state.opening }
@@ -134,9 +142,11 @@ impl MarkedBook {
             hit: Some(frame),
         } = reply
         {
-            let bits = self.hits.note(frame.0);
-            let word = frame.0 / 64;
-            calls::merge(&mut self.book, pass, word, bits);
+            if marks {
+                let bits = self.hits.note(frame.0);
+                let word = frame.0 / 64;
+                calls::merge(&mut self.book, pass, word, bits);
+            }
         }
     }
 

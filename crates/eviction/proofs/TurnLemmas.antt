@@ -9,7 +9,7 @@ use Rattle.machine.specs.Generations.{Listed, Row, Gens, row_of, at_seq, without
 use Rattle.machine.specs.Aging.{Seen, has_mark, is_marked}
 use Rattle.machine.specs.Eviction.{is_old, old_of, old_pages, in_turn, front_run, behind_run, is_below, is_nil, has_usable, usable_anon, to_tail, sent_back, passed_by, settled, settled_gens}
 use Rattle.machine.proofs.ListedLemmas.{each-front, each-back, each-filter, none-in, in-none, has_page-without, has-filter, listed-page, rising-filter, distinct-filter}
-use Rattle.machine.proofs.HeldLemmas.{added-sound}
+use Rattle.machine.proofs.HeldLemmas.{added-sound, oldest-youngest}
 use Rattle.lru_gen.proofs.KindLemmas.{each_row, in_no_row, kind_is, sound_distinct, sound_apart, sound_rows}
 use Rattle.aging.proofs.PromoteLemmas.{with_pages, in-middle, moved}
 use Rattle.eviction.proofs.ListLemmas.{each-in_turn, each-usable, usable, usable-first, old_of-tail, old_of-first, in_turn-first}
@@ -34,6 +34,7 @@ isolated-sound p g s =
 
 pub tail-sound : (p : ℕ) (s : Seen) → IsGens s.gens → IsGens (to_tail p s).gens
 tail-sound p s g =
+    let least = oldest-youngest (kind_of s.gens p) (isolated p s.gens) (isolated-sound p s.gens g) in
     added-sound p (kind_of s.gens p) s.gens.max_seq (isolated p s.gens) (isolated-sound p s.gens g)
     (or_from (has_page p (without p s.gens.file.pages)) (has_page p (without p s.gens.anon.pages)) (has_page-without p s.gens.file.pages) (has_page-without p s.gens.anon.pages)) (omega arith) (omega arith)
 

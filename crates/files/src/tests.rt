@@ -1,5 +1,5 @@
 use super::*;
-use machine::config::{Config, File, Watermarks};
+use machine::config::{Config, File, Placement, Watermarks};
 use machine::text::Text;
 use std::alloc::{AllocError, Global};
 use std::test::Fail;
@@ -29,6 +29,7 @@ fn blocks(swap: u32, files: FileList) -> Option<u32> {
         trace: 1,
         turns: 1000,
         recursive: false,
+        placement: Placement::Own,
     })
 }
 

@@ -14,7 +14,7 @@ pub record HeldOf : Type 0 where
 -- a page of this type is the last of a generation of its group
 abbrev pub entered : HeldLists → ℕ → Kind → ℕ → Generation → HeldLists
 entered lists g kind p generation =
-    record { groups = with_gens lists.groups g (added p kind (seq_in generation (gens_at lists.groups g)) (gens_at lists.groups g)); marks = lists.marks }
+    record { groups = with_gens lists.groups g (added p kind (seq_in generation kind (gens_at lists.groups g)) (gens_at lists.groups g)); marks = lists.marks }
 
 -- a page of the group leaves its list with its mark
 abbrev pub left : HeldLists → ℕ → ℕ → HeldLists

@@ -1,19 +1,20 @@
 //! The pages that are held: in frames and in no transfer. Their generation lists, and which of them are marked as
 //! accessed, kept together, so that a page that leaves its list leaves its mark.
 //!
-//! A page that comes enters the youngest generation of its group and type, but what was read in the second
-//! youngest; none comes with a mark. No call but those that open and reserve takes memory.
+//! A page that comes enters the youngest generation of its group and type, but where the placement puts what was
+//! read in; none comes with a mark. No call but those that open and reserve takes memory.
 #![tactic(auto)]
 
 ghost use Rattle.std.specs.Prelude.{◌≡◌, ◌≢◌, ℕ, ◌+◌, ◌-◌, ◌<◌, ◌≤◌, ◌^◌, ◌∷◌, [], true, false, Some, None, IfOk, OnOk, length, replicate, slice_set};
 ghost use Rattle.machine.specs.Generations.{new_gens, gens_at, handed_over, is_listed, is_listed_in};
 ghost use Rattle.machine.specs.Eviction.{has_usable};
-ghost use Rattle.machine.specs.Lists.{entry_after, with_group, AreGenerations, PicksOf, Youngest};
+ghost use Rattle.machine.specs.Lists.{entry_after, second_oldest, with_group, AreGenerations, PicksOf, Youngest};
 ghost use Rattle.held_pages.specs.Held.{HeldOf, entered, left, KeepsRows};
 
 use aging::MarkSet;
 use eviction::pick;
 use lru_gen::Gens;
+use machine::config::Placement;
 use machine::id::{GroupId, PageId};
 use machine::record::{Direction, Kind};
 use std::alloc::{AllocError, Global};
@@ -99,20 +100,43 @@ impl HeldPages {
     }
 
     /// The page, whose transfer in this direction has ended and which is on no list, is the last of the
-    /// generation that such a page enters (kernel: folio_putback_lru).
-    pub fn putback(&mut self, group: GroupId, kind: Kind, page: PageId, direction: Direction)
+    /// generation that such a page enters by this placement (kernel: folio_putback_lru, lru_gen_add_folio).
+    pub fn putback(
+        &mut self,
+        group: GroupId,
+        kind: Kind,
+        page: PageId,
+        direction: Direction,
+        placement: Placement,
+    )
         requires group { group.0 < length self.old.lists.groups }
         requires number { page.0 < self.old.numbers }
         requires unlisted { is_listed_in self.old.lists.groups page.0 ≡ false }
-        ensures { self.new ≡ record self.old { lists = entered self.old.lists group.0 kind page.0 (entry_after direction) } }
+        ensures { self.new ≡ record self.old { lists = entered self.old.lists group.0 kind page.0 (entry_after placement direction) } }
     {
         self.gens.is_sound();
         let youngest = self.gens.max_seq(group);
-        let seq = match direction {
-            Direction::In => youngest - 1,
-            Direction::Out => youngest,
+        let seq = match (direction, placement, kind) {
+            (Direction::Out, _, _) | (Direction::In, Placement::Linux, Kind::Anon) => youngest,
+            (Direction::In, Placement::Own, _) => youngest - 1,
+            (Direction::In, Placement::Linux, Kind::File) => self.second_oldest(group),
         };
         self.gens.add(group, page, kind, seq);
+    }
+
+    /// The number of the second oldest generation of pages of files, where that is none of the two youngest, and
+    /// else of the oldest (kernel: lru_gen_is_active).
+    fn second_oldest(&self, group: GroupId) -> u64
+        requires { group.0 < length self.now.lists.groups }
+        ensures { result ≡ second_oldest (gens_at self.now.lists.groups group.0).max_seq (gens_at self.now.lists.groups group.0).file.min_seq }
+    {
+        self.gens.is_sound();
+        let oldest = self.gens.min_seq(group, Kind::File);
+        if self.gens.max_seq(group) - oldest > 2 {
+            oldest + 1
+        } else {
+            oldest
+        }
     }
 
     /// The page leaves its list with its mark, and all others keep their places (kernel: folio_isolate_lru).

@@ -165,7 +165,7 @@ module _ (opening : Opening) (history : List Entry) (old new : State) (order ord
 
   ordered-keeps : changes_groups what ≡ false → Keeps old order what answer new order' → IsInOrder old order → IsInOrder new order'
   ordered-keeps same h was =
-      goes-ordered (generation_for what) order.held same h.0 was.listed was.sound was.groups was.marks (ap (λ (xs : List (Option ℕ)). length xs) h.1 ∙ was.cursors)
+      goes-ordered (generation_for old.opening.placement what) order.held same h.0 was.listed was.sound was.groups was.marks (ap (λ (xs : List (Option ℕ)). length xs) h.1 ∙ was.cursors)
 
   ordered-merges : (word bits : ℕ) → what ≡ event.MergeMarks word bits → MergesMarks old.pages word bits order.held order'.held × (order'.cursors ≡ order.cursors) → IsInOrder old order → IsInOrder new order'
   ordered-merges word bits e h was =
@@ -241,7 +241,7 @@ keeps-numbers old new (event.Mkdir path) answer h = λ g.
     (ap (λ (x : Gens). x.max_seq) same, λ kind. ap (λ (x : Gens). (row_of kind x).min_seq) same)
 keeps-numbers old new (event.Rmdir g) answer h = removes-numbers (node_at old.state.tree g.0).parent g.0 old.order new.order h
 keeps-numbers old new (event.MergeMarks word bits) answer h = λ g. (ap (λ (xs : List Gens). (gens_at xs g).max_seq) h.groups, λ kind. ap (λ (xs : List Gens). (row_of kind (gens_at xs g)).min_seq) h.groups)
-keeps-numbers old new what answer h = goes-numbers (generation_for what) old.state.pages new.state.pages old.order.held new.order.held h
+keeps-numbers old new what answer h = goes-numbers (generation_for old.state.opening.placement what) old.state.pages new.state.pages old.order.held new.order.held h
 
 pub only_takes_age : OnlyTakesAge
 only_takes_age old new caller what answer none called =
@@ -286,7 +286,7 @@ only_merges_mark old new caller what answer called p m =
       | inl was ↦ inl was
       | inr named ↦ inr (word, bits, e, named)
     ])
-    (λ same k. inl (goes-marked (generation_for what) old.state.pages new.state.pages old.order.held new.order.held k.0 p m))
+    (λ same k. inl (goes-marked (generation_for old.state.opening.placement what) old.state.pages new.state.pages old.order.held new.order.held k.0 p m))
     h.order) called
 
 pub merges_change_marks_alone : MergesChangeMarksAlone

@@ -1,7 +1,7 @@
 -- Kills: of a task alone, and of a group.
 use Rattle.std.proofs.Common.{◌≡◌, ◌≢◌, inl, inr, ℕ, zero, suc, ◌+◌, ◌<◌, ◌≤◌, ◌==◌, ◌&&◌, ◌||◌, not, Bool, true, false, cond, List, [], ◌∷◌, ◌++◌, Option, Some, None, eqb-true, eq-eqb, ne_eqb, refl, sym, ap, ◌∙◌, subst, arith}
 use Rattle.std.specs.Prelude.{filter, map, nat_lt, sum_by}
-use Rattle.std.proofs.lemmas.Bool.{cases_Bool, and_parts}
+use Rattle.std.proofs.lemmas.Bool.{cases_Bool}
 use Rattle.std.proofs.lemmas.Bool.Decides.{nat_tests}
 use Rattle.std.proofs.lemmas.List.Sums.{sum_by-cons, sum_by-append}
 use Rattle.machine.specs.declared.entry.Entry.{Entry}
@@ -26,7 +26,7 @@ use Rattle.machine.specs.Step.{EndsTasks, KillStep, Step}
 use Rattle.machine.specs.Legal.{Legal}
 use Rattle.machine.proofs.Values.{some_inj, unlike}
 use Rattle.machine.proofs.TreeLemmas.{eq_cases, under_at-None, under_at-step}
-use Rattle.machine.proofs.KillGroupLemmas.{IsHighest, above_parent, kill_group-highest}
+use Rattle.machine.proofs.KillGroupLemmas.{candidate-parts, IsHighest, above_parent, kill_group-highest}
 use Rattle.legal.proofs.SoundLemmas.{legal-sound}
 use Rattle.legal.proofs.CountedLemmas.{step-counted}
 use Rattle.legal.proofs.NamedLemmas.{step-counts}
@@ -76,14 +76,6 @@ through tree is (suc n) a b g lt up down =
     by_parent None e below rest = absurd (unlike (under_at tree b (node_at tree g).parent) below (ap (under_at tree b) e ∙ under_at-None tree is b))
     by_parent (Some p) e below rest =
         under_at-step tree is a g ∙ ap (λ c. (a == g) || c) (ap (under_at tree a) e ∙ rest p e (sym (ap (under_at tree b) e) ∙ below)) ∙ or_true (a == g)
-
--- a candidate lives, in a group at or under the limit
-candidate-parts : (tree : List Node) (tasks : Tasks) (limit t : ℕ) → is_candidate tree tasks limit t ≡ true → (lives tasks t ≡ true) × (under tree limit (group_of_task tasks t) ≡ true)
-candidate-parts tree tasks limit t is = by_slot (task_at tasks t) is
-  where
-    by_slot : (slot : Option Task) → there_and (is_live_under tree limit) slot ≡ true → (there_and is_live_task slot ≡ true) × (under tree limit (group_of slot) ≡ true)
-    by_slot None e = absurd cc
-    by_slot (Some task) e = and_parts (is_live_task task) _ e
 
 candidate-of : (tree : List Node) (tasks : Tasks) (limit t : ℕ) → lives tasks t ≡ true → under tree limit (group_of_task tasks t) ≡ true → is_candidate tree tasks limit t ≡ true
 candidate-of tree tasks limit t alive up = by_slot (task_at tasks t) alive up

@@ -68,7 +68,7 @@ module _ (opening : Opening) where
   pub legal-want : (caller : Caller) (past past' : Past) (disk disk' : Disk) (wanted : Want) (transition : Transition) → WantTurn caller past disk wanted transition past' disk' → IsLegal past → IsLegal past'
   legal-want caller past past' disk disk' (want.Call remembers what) transition turn legal =
       let asks = turn.0 in
-      let stays = marks-stay caller asks.mid past' (reply_of asks.said) asks.marks in
+      let stays = marks-stay _ caller asks.mid past' (reply_of asks.said) asks.marks in
       rw (stays.history, stays.state) (legal-called past asks.mid caller (event_of what) (reply_of asks.said) asks.called legal)
   legal-want caller past past' disk disk' (want.Read access ticket) transition turn legal = legal-same past past' turn.1 legal
   legal-want caller past past' disk disk' (want.Write on ticket) transition turn legal = legal-same past past' turn.1 legal

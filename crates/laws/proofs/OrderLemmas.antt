@@ -1,5 +1,5 @@
 -- In which order pages leave, in runs: the lists are right after every run, and so the page that is taken next is the one that they give.
-use Rattle.std.proofs.Common.{◌≡◌, ◌/◌, true, List, Some, sym, subst}
+use Rattle.std.proofs.Common.{◌≡◌, ◌/◌, true, List, Some, sym, subst, Bool, false}
 use Rattle.machine.specs.declared.event.Event.TheVariants as event
 use Rattle.machine.specs.declared.reply.Reply.{Reply}
 use Rattle.machine.specs.declared.reply.Reply.TheVariants as reply
@@ -35,14 +35,15 @@ module _ (opening : Opening) where
   ordered_rest w who what was idle h = record { tickets = tickets_rest opening w who what was idle h.tickets; order = h.order }
 
   -- a page that was hit is marked, and the lists are right still
-  marks-ordered : (caller : Caller) (mid new : Past) (said : Reply) → MarksAfter caller mid said new → IsLegal opening new → IsOrdered mid → IsOrdered new
-  marks-ordered caller mid new (reply.Done byte (Some frame)) h legal was = ordered-called opening mid new caller (event.MergeMarks (frame.0 / 64) h.bits) reply.Ok legal h.merged was
-  marks-ordered caller mid new said h legal was = subst IsOrdered (sym h) was
+  marks-ordered : (marks : Bool) (caller : Caller) (mid new : Past) (said : Reply) → MarksAfter marks caller mid said new → IsLegal opening new → IsOrdered mid → IsOrdered new
+  marks-ordered true caller mid new (reply.Done byte (Some frame)) h legal was = ordered-called opening mid new caller (event.MergeMarks (frame.0 / 64) h.bits) reply.Ok legal h.merged was
+  marks-ordered false caller mid new (reply.Done byte (Some frame)) h legal was = subst IsOrdered (sym h) was
+  marks-ordered marks caller mid new said h legal was = subst IsOrdered (sym h) was
 
   want_ordered : (caller : Caller) (past past' : Past) (disk disk' : Disk) (wanted : Want) (transition : Transition) → WantTurn caller past disk wanted transition past' disk' → IsLegal opening past → IsLegal opening past' → IsOrdered past → IsOrdered past'
   want_ordered caller past past' disk disk' (want.Call remembers what) transition turn before legal h =
       let asks = turn.0 in
-      marks-ordered caller asks.mid past' (reply_of asks.said) asks.marks legal
+      marks-ordered _ caller asks.mid past' (reply_of asks.said) asks.marks legal
       (ordered-called opening past asks.mid caller (event_of what) (reply_of asks.said) (legal-called opening past asks.mid caller (event_of what) (reply_of asks.said) asks.called before) asks.called h)
   want_ordered caller past past' disk disk' (want.Read access ticket) transition turn before legal h = subst IsOrdered (sym turn.1) h
   want_ordered caller past past' disk disk' (want.Write on ticket) transition turn before legal h = subst IsOrdered (sym turn.1) h

@@ -1,6 +1,6 @@
 -- Which pages a turn of a schedule marks: the one that it hit, and no other.
 use Rattle.std.specs.Prelude.{◌⊎◌, Ok, Err}
-use Rattle.std.proofs.Common.{◌≡◌, ◌≢◌, inl, inr, ℕ, suc, ◌/◌, ◌%◌, ◌==◌, ◌&&◌, ◌||◌, Bool, true, false, cond, List, ◌∷◌, ◌++◌, length, Option, Some, None, eq-eqb, eqb-true, refl, sym, ap, ◌∙◌, subst, arith}
+use Rattle.std.proofs.Common.{◌≡◌, ◌≢◌, inl, inr, ℕ, zero, suc, ◌/◌, ◌%◌, ◌==◌, ◌&&◌, ◌||◌, Bool, true, false, cond, List, ◌∷◌, ◌++◌, length, Option, Some, None, eq-eqb, eqb-true, refl, sym, ap, ◌∙◌, subst, arith}
 use Rattle.std.specs.Int.{bit_at}
 use Rattle.std.proofs.lemmas.Bool.{and_parts}
 use Rattle.std.proofs.lemmas.Bool.Decides.{eqb_tells}
@@ -8,6 +8,7 @@ use Rattle.machine.specs.declared.command.Actor.{Actor}
 use Rattle.machine.specs.declared.command.Step.{Step as Line}
 use Rattle.machine.specs.declared.command.Reply.{Reply as Told_by}
 use Rattle.machine.specs.declared.config.Config.{Config}
+use Rattle.machine.specs.declared.config.Placement.{Placement}
 use Rattle.machine.specs.declared.entry.Entry.{Entry}
 use Rattle.machine.specs.declared.event.Op.{Op}
 use Rattle.machine.specs.declared.event.Place.{Place}
@@ -19,7 +20,7 @@ use Rattle.machine.specs.declared.reply.Reply.{Reply as Plain_reply}
 use Rattle.machine.specs.declared.reply.Reply.TheVariants as said_of
 use Rattle.machine.specs.Slots.{there_and}
 use Rattle.machine.specs.Pages.{Residence, Held, Coming, Going, Away, Page, page_at, frame_at}
-use Rattle.machine.specs.State.{Opening, opening_of}
+use Rattle.machine.specs.State.{Opening, opening_of, free_frames}
 use Rattle.machine.specs.Aging.{is_marked}
 use Rattle.machine.specs.Lists.{shown_at, has_bit, is_in_bits_at, is_in_bits}
 use Rattle.machine.specs.Call.{Past, leaves_entry, entry_of, Answers, Called}
@@ -31,22 +32,23 @@ use Rattle.book.specs.declared.event.Reply.{Reply}
 use Rattle.book.specs.declared.event.Reply.TheVariants as said
 use Rattle.book.specs.Events.{event_of, reply_of}
 use Rattle.legal.proofs.StepLemmas.{IsHit, access-hits}
-use Rattle.legal.proofs.SoundLemmas.{pages_share_no_frame}
+use Rattle.legal.proofs.SoundLemmas.{legal-sound, pages_share_no_frame}
 use Rattle.turns.specs.declared.turn.Access.{Access}
 use Rattle.turns.specs.declared.turn.Pending.{Pending}
 use Rattle.turns.specs.declared.turn.Pending.TheVariants as pending
 use Rattle.turns.specs.declared.turn.Stage.{Stage}
+use Rattle.turns.specs.declared.turn.Stage.TheVariants as stage
 use Rattle.turns.specs.declared.turn.Want.{Want}
 use Rattle.turns.specs.declared.turn.Want.TheVariants as want
 use Rattle.turns.specs.declared.turn.Transition.{Transition}
 use Rattle.driver.specs.declared.seat.Outcome.{Outcome}
 use Rattle.driver.specs.declared.seat.Activity.{Activity}
 use Rattle.driver.specs.declared.seat.Activity.TheVariants.{Rests, Begun, Does}
-use Rattle.turns.specs.Turns.{Judged, judged, Told, access_event}
+use Rattle.turns.specs.Turns.{Judged, judged, Told, access_event, wants_pages, marks_hit}
 use Rattle.driver.specs.Schedule.{World, first_world, activity_of, Asks, MarksAfter, WantTurn, wants_at, StageTurn, JudgedTurn, ActivityTurn, Turn, Runs}
-use Rattle.driver.proofs.Keeps.{OfCommand, of_command-leaves, Tries, FineWant, wants_fine}
+use Rattle.driver.proofs.Keeps.{balance_either, watch_either, OfCommand, of_command-leaves, Tries, FineWant, wants_fine}
 use Rattle.driver.proofs.MarkLemmas.{marks-stay}
-use Rattle.laws.specs.Laws.{Hits, HitsMark, OnlyHitsMark, MergesAreServed}
+use Rattle.laws.specs.Laws.{begins_at, stage_at, leaves_mark, marks_in, Hits, HitsMark, OnlyHitsMark, MergesAreServed}
 use Rattle.laws.proofs.Legals.{IsLegal, legal-called}
 use Rattle.laws.proofs.CallLemmas.{called_or, called_answers, is_refusal, only_merges_mark, merge_served, merge_says}
 use Rattle.laws.proofs.OrderLemmas.{runs_ordered}
@@ -54,33 +56,55 @@ use Rattle.laws.proofs.OrderLemmas.{runs_ordered}
 -- ---- what a turn asks
 
 -- a turn asks the book one event of a command, or leaves the book as it was
-pub record AsksOne (old : World) (new : World) : Type 0 where
+pub record AsksOne (old : World) (marks : Bool) (new : World) : Type 0 where
   pub remembers : Pending
   pub what : Event
   pub transition : Transition
   pub asks : Asks old.caller old.past remembers what transition new.past
   pub fine : OfCommand what × Tries remembers what
+  -- what it hits is marked, or not, as this says
+  pub leaves : marks_hit old.past.state.opening.placement remembers ≡ marks
+
+-- what is asked marks what it hits as this says
+abbrev MarksSo : Placement → Bool → Want → Type 0
+MarksSo placement marks (want.Call remembers what) = marks_hit placement remembers ≡ marks
+MarksSo placement marks wanted = Unit {0}
+
+pages-mark : (placement : Placement) (g left : ℕ) → MarksSo placement true (wants_pages g left)
+pages-mark placement g zero = tt
+pages-mark placement g (suc left) = refl
+
+wants-mark : (placement : Placement) (past : Past) (stage : Stage) → MarksSo placement (leaves_mark placement (Some stage)) (wants_at past stage)
+wants-mark placement past stage.Watch = watch_either (MarksSo placement true) past.state.opening.watermarks (free_frames past.state) tt refl
+wants-mark placement past stage.Balance = balance_either (MarksSo placement true) past.state.opening.watermarks (free_frames past.state) tt refl
+wants-mark placement past (stage.Reclaim g left) = pages-mark placement g.0 left
+wants-mark placement past (stage.Read access ticket) = tt
+wants-mark placement past (stage.Write on ticket) = tt
+wants-mark placement past others = refl
 
 module _ (old new : World) where
-  want_asks : (w : Want) (transition : Transition) → FineWant w → WantTurn old.caller old.past old.disk w transition new.past new.disk → (new.past ≡ old.past) ⊎ AsksOne old new
-  want_asks (want.Call remembers what) transition fine turn = inr (record { remembers = remembers; what = what; transition = transition; asks = turn.0; fine = fine })
-  want_asks (want.Read access ticket) transition fine turn = inl turn.1
-  want_asks (want.Write on ticket) transition fine turn = inl turn.1
-  want_asks (want.End answer) transition fine turn = inl turn.1
+  abbrev placement : Placement
+  placement = old.past.state.opening.placement
 
-  stage_asks : (who : Actor) (stage : Stage) (outcome : Outcome) → StageTurn old who stage outcome new → (new.past ≡ old.past) ⊎ AsksOne old new
-  stage_asks who stage outcome turn = want_asks (wants_at old.past stage) turn.transition (wants_fine old.past stage) turn.turns
+  want_asks : (marks : Bool) (w : Want) (transition : Transition) → FineWant w → MarksSo placement marks w → WantTurn old.caller old.past old.disk w transition new.past new.disk → (new.past ≡ old.past) ⊎ AsksOne old marks new
+  want_asks marks (want.Call remembers what) transition fine leaves turn = inr (record { remembers = remembers; what = what; transition = transition; asks = turn.0; fine = fine; leaves = leaves })
+  want_asks marks (want.Read access ticket) transition fine leaves turn = inl turn.1
+  want_asks marks (want.Write on ticket) transition fine leaves turn = inl turn.1
+  want_asks marks (want.End answer) transition fine leaves turn = inl turn.1
 
-  judged_asks : (who : Actor) (found : Judged) (outcome : Outcome) → JudgedTurn old who found outcome new → (new.past ≡ old.past) ⊎ AsksOne old new
+  stage_asks : (who : Actor) (stage : Stage) (outcome : Outcome) → StageTurn old who stage outcome new → (new.past ≡ old.past) ⊎ AsksOne old (leaves_mark placement (Some stage)) new
+  stage_asks who stage outcome turn = want_asks (leaves_mark placement (Some stage)) (wants_at old.past stage) turn.transition (wants_fine old.past stage) (wants-mark placement old.past stage) turn.turns
+
+  judged_asks : (who : Actor) (found : Judged) (outcome : Outcome) → JudgedTurn old who found outcome new → (new.past ≡ old.past) ⊎ AsksOne old (leaves_mark placement (begins_at found)) new
   judged_asks who (Err why) outcome turn = inl (ap (λ (w : World). w.past) turn.1)
   judged_asks who (Ok stage) outcome turn = stage_asks who stage outcome turn
 
-  activity_asks : (who : Actor) (at : Activity) (outcome : Outcome) → ActivityTurn old who at outcome new → (new.past ≡ old.past) ⊎ AsksOne old new
+  activity_asks : (who : Actor) (at : Activity) (outcome : Outcome) → ActivityTurn old who at outcome new → (new.past ≡ old.past) ⊎ AsksOne old (leaves_mark placement (stage_at old who at)) new
   activity_asks who Rests outcome turn = inl (ap (λ (w : World). w.past) turn.1)
   activity_asks who (Begun what) outcome turn = judged_asks who (judged old.past.state.tree who what) outcome turn
   activity_asks who (Does stage) outcome turn = stage_asks who stage outcome turn
 
-  turn_asks : (who : Actor) (outcome : Outcome) → Turn old who outcome new → (new.past ≡ old.past) ⊎ AsksOne old new
+  turn_asks : (who : Actor) (outcome : Outcome) → Turn old who outcome new → (new.past ≡ old.past) ⊎ AsksOne old (leaves_mark placement (stage_at old who (activity_of who old.seats))) new
   turn_asks who outcome turn = activity_asks who (activity_of who old.seats) outcome turn
 
 -- ---- the bit of one frame
@@ -132,18 +156,19 @@ pub record HitPage (old mid new : Past) (t : TaskId) (place : Place) (frame : Fr
   pub hit : IsHit old.state t.0 place frame mid.state
   pub marked : is_marked new.order.held.marks hit.p ≡ true
 
-module _ (old : World) (new : World) (asks : AsksOne old new) where
+module _ (old : World) (marked : Bool) (new : World) (asks : AsksOne old marked new) where
   abbrev mid : Past
   mid = asks.asks.mid
 
-  -- the reply is this one: its page is marked
-  hit_page : (t : TaskId) (place : Place) (op : Op) (byte : ℕ) (frame : FrameId) → event_of asks.what ≡ plain.Access t place op → reply_of asks.asks.said ≡ said_of.Done byte (Some frame) → HitPage old.past mid new.past t place frame
-  hit_page t place op byte frame what answer =
+  -- the reply is this one: its page is marked, if it is to be
+  hit_page : (t : TaskId) (place : Place) (op : Op) (byte : ℕ) (frame : FrameId) → marked ≡ true → event_of asks.what ≡ plain.Access t place op → reply_of asks.asks.said ≡ said_of.Done byte (Some frame) → HitPage old.past mid new.past t place frame
+  hit_page t place op byte frame is_marked_so what answer =
       let called : Called old.past old.caller (plain.Access t place op) (said_of.Done byte (Some frame)) mid =
       subst (λ (e : Plain_event). Called old.past old.caller e (said_of.Done byte (Some frame)) mid) what (subst (λ (r : Plain_reply). Called old.past old.caller (event_of asks.what) r mid) answer asks.asks.called) in
       let answers = called_answers old.past mid old.caller (plain.Access t place op) (said_of.Done byte (Some frame)) refl called in
       let hit = access-hits old.past.state mid.state t place op byte frame answers.steps in
-      let marks : MarksAfter old.caller mid (said_of.Done byte (Some frame)) new.past = subst (λ (r : Plain_reply). MarksAfter old.caller mid r new.past) answer asks.asks.marks in
+      let marks : MarksAfter true old.caller mid (said_of.Done byte (Some frame)) new.past =
+      subst (λ (r : Plain_reply). MarksAfter true old.caller mid r new.past) answer (subst (λ (b : Bool). MarksAfter b old.caller mid (reply_of asks.asks.said) new.past) (asks.leaves ∙ is_marked_so) asks.asks.marks) in
       let merged = called_answers mid new.past old.caller (plain.MergeMarks (frame.0 / 64) marks.bits) said_of.Ok refl marks.merged in
       let named : there_and (is_in_bits (frame.0 / 64) marks.bits) (page_at mid.state.pages hit.p) ≡ true =
       ap (there_and (is_in_bits (frame.0 / 64) marks.bits)) hit.there ∙ ap (is_in_bits_at (frame.0 / 64) marks.bits) hit.stands ∙ bit_here marks.bits frame.0 marks.one in
@@ -159,18 +184,18 @@ module _ (old : World) (new : World) (asks : AsksOne old new) where
   -- what was served stands in the history
   served_history : Answers old.past old.caller (event_of asks.what) (reply_of asks.asks.said) mid → new.past.history ≡ entry_of old.caller old.past.history (event_of asks.what) (reply_of asks.asks.said) ∷ old.past.history
   served_history h =
-      (marks-stay old.caller mid new.past (reply_of asks.asks.said) asks.asks.marks).history
+      (marks-stay _ old.caller mid new.past (reply_of asks.asks.said) asks.asks.marks).history
       ∙ h.history ∙ ap (λ (es : List Entry). es ++ old.past.history) (entries-one old.caller old.past.history (event_of asks.what) (reply_of asks.asks.said) (of_command-leaves asks.what asks.fine.0))
 
   -- a hit that the history tells of is that of the turn
-  told_hit : (t : TaskId) (place : Place) → (hits : Hits old.past new.past t place) → HitPage old.past mid new.past t place hits.frame
-  told_hit t place hits =
+  told_hit : (t : TaskId) (place : Place) → (hits : Hits old.past new.past t place) → marked ≡ true → HitPage old.past mid new.past t place hits.frame
+  told_hit t place hits is_marked_so =
       called_or old.past mid old.caller (event_of asks.what) (reply_of asks.asks.said)
       (λ same.
-      absurd (shorter hits.entry old.past.history (sym ((marks-stay old.caller mid new.past (reply_of asks.asks.said) asks.asks.marks).history ∙ ap (λ (p : Past). p.history) same) ∙ hits.newest)))
+      absurd (shorter hits.entry old.past.history (sym ((marks-stay _ old.caller mid new.past (reply_of asks.asks.said) asks.asks.marks).history ∙ ap (λ (p : Past). p.history) same) ∙ hits.newest)))
       (λ h.
       let entry : hits.entry ≡ entry_of old.caller old.past.history (event_of asks.what) (reply_of asks.asks.said) = same_head _ _ old.past.history old.past.history (sym hits.newest ∙ served_history h) in
-      hit_page t place hits.op hits.byte hits.frame (sym (ap (λ (e : Entry). e.event) entry) ∙ hits.asked) (sym (ap (λ (e : Entry). e.reply) entry) ∙ hits.answered)) asks.asks.called
+      hit_page t place hits.op hits.byte hits.frame is_marked_so (sym (ap (λ (e : Entry). e.event) entry) ∙ hits.asked) (sym (ap (λ (e : Entry). e.reply) entry) ∙ hits.answered)) asks.asks.called
 
   -- the call itself marks nothing
   called_marks_none : (p : ℕ) → is_marked mid.order.held.marks p ≡ true → is_marked old.past.order.held.marks p ≡ true
@@ -186,16 +211,16 @@ module _ (old : World) (new : World) (asks : AsksOne old new) where
 
   -- whatever is marked was marked before, or is the page that was hit
   only_hit : (opening : Opening) → IsLegal opening old.past → (p : ℕ) → is_marked new.past.order.held.marks p ≡ true
-      → (is_marked old.past.order.held.marks p ≡ true) ⊎ ((t : TaskId) × (place : Place) × Hits old.past new.past t place × (shown_at old.past.state t.0 place ≡ Some p))
-  only_hit opening legal p m = by_said asks.asks.said refl asks.asks.marks
+      → (is_marked old.past.order.held.marks p ≡ true) ⊎ ((t : TaskId) × (place : Place) × Hits old.past new.past t place × (shown_at old.past.state t.0 place ≡ Some p) × (marked ≡ true))
+  only_hit opening legal p m = by_said asks.asks.said refl marked refl (subst (λ (b : Bool). MarksAfter b old.caller mid (reply_of asks.asks.said) new.past) asks.leaves asks.asks.marks)
     where
-      of_hit : (byte : ℕ) (frame : FrameId) → asks.asks.said ≡ said.Done byte (Some frame) → (bits : ℕ) → ((f : ℕ) → f / 64 ≡ frame.0 / 64 → bit_at bits (f % 64) ≡ (cond (f == frame.0) 1 0))
-          → there_and (is_in_bits (frame.0 / 64) bits) (page_at mid.state.pages p) ≡ true → (t : TaskId) × (place : Place) × Hits old.past new.past t place × (shown_at old.past.state t.0 place ≡ Some p)
-      of_hit byte frame is bits one named =
+      of_hit : (byte : ℕ) (frame : FrameId) → asks.asks.said ≡ said.Done byte (Some frame) → marked ≡ true → (bits : ℕ) → ((f : ℕ) → f / 64 ≡ frame.0 / 64 → bit_at bits (f % 64) ≡ (cond (f == frame.0) 1 0))
+          → there_and (is_in_bits (frame.0 / 64) bits) (page_at mid.state.pages p) ≡ true → (t : TaskId) × (place : Place) × Hits old.past new.past t place × (shown_at old.past.state t.0 place ≡ Some p) × (marked ≡ true)
+      of_hit byte frame is is_marked_so bits one named =
           let access = tries_done asks.remembers byte (Some frame) asks.transition asks.what (subst (λ (r : Reply). Told asks.remembers r asks.transition) is asks.asks.told) asks.fine.1 in
           let what : event_of asks.what ≡ plain.Access access.0.task access.0.place access.0.op = ap event_of access.1 in
           let answer : reply_of asks.asks.said ≡ said_of.Done byte (Some frame) = ap reply_of is in
-          let page = hit_page access.0.task access.0.place access.0.op byte frame what answer in
+          let page = hit_page access.0.task access.0.place access.0.op byte frame is_marked_so what answer in
           let answers = called_answers old.past mid old.caller (event_of asks.what) (reply_of asks.asks.said) (ap is_refusal answer) asks.asks.called in (
             access.0.task,
             access.0.place,
@@ -209,6 +234,7 @@ module _ (old : World) (new : World) (asks : AsksOne old new) where
               answered = answer;
             },
             page.hit.shown ∙ ap (λ (n : ℕ). Some n) (sym (same_page (page_at mid.state.pages p) refl named page.hit)),
+            is_marked_so,
           )
         where
           same_page : (slot : Option Page) → page_at mid.state.pages p ≡ slot → there_and (is_in_bits (frame.0 / 64) bits) slot ≡ true → {t : TaskId} {place : Place} → (hit : IsHit old.past.state t.0 place frame mid.state) → p ≡ hit.p
@@ -218,18 +244,19 @@ module _ (old : World) (new : World) (asks : AsksOne old new) where
               pages_share_no_frame opening mid.history mid.state (legal-called opening old.past mid old.caller (event_of asks.what) (reply_of asks.asks.said) asks.asks.called legal) p hit.p frame.0 page hit.page there hit.there
               (ap frame_at found.1 ∙ ap (λ (n : ℕ). Some n) (bit_alone bits frame.0 found.0 one found.2)) (ap frame_at hit.stands)
 
-      by_said : (answered : Reply) → asks.asks.said ≡ answered → MarksAfter old.caller mid (reply_of answered) new.past
-          → (is_marked old.past.order.held.marks p ≡ true) ⊎ ((t : TaskId) × (place : Place) × Hits old.past new.past t place × (shown_at old.past.state t.0 place ≡ Some p))
-      by_said (said.Done byte (Some frame)) is marks =
+      by_said : (answered : Reply) → asks.asks.said ≡ answered → (b : Bool) → marked ≡ b → MarksAfter b old.caller mid (reply_of answered) new.past
+          → (is_marked old.past.order.held.marks p ≡ true) ⊎ ((t : TaskId) × (place : Place) × Hits old.past new.past t place × (shown_at old.past.state t.0 place ≡ Some p) × (marked ≡ true))
+      by_said (said.Done byte (Some frame)) is true so marks =
           elim (only_merges_mark mid new.past old.caller (plain.MergeMarks (frame.0 / 64) marks.bits) said_of.Ok marks.merged p m) [
             | inl was ↦ inl (called_marks_none p was)
-            | inr merge ↦ inr (of_hit byte frame is marks.bits marks.one (same_merge merge.0 merge.1 merge.2 merge.3))
+            | inr merge ↦ inr (of_hit byte frame is so marks.bits marks.one (same_merge merge.0 merge.1 merge.2 merge.3))
           ]
         where
           same_merge : (word bits : ℕ) → plain.MergeMarks (frame.0 / 64) marks.bits ≡ plain.MergeMarks word bits → there_and (is_in_bits word bits) (page_at mid.state.pages p) ≡ true
               → there_and (is_in_bits (frame.0 / 64) marks.bits) (page_at mid.state.pages p) ≡ true
           same_merge word bits e named = ap (λ (w : ℕ). there_and (is_in_bits w marks.bits) (page_at mid.state.pages p)) (ap word_of e) ∙ ap (λ (b : ℕ). there_and (is_in_bits word b) (page_at mid.state.pages p)) (ap bits_of e) ∙ named
-      by_said answered is marks = inl (called_marks_none p (ap (λ (x : Past). is_marked x.order.held.marks p) (sym marks) ∙ m))
+      by_said (said.Done byte (Some frame)) is false so marks = inl (called_marks_none p (ap (λ (x : Past). is_marked x.order.held.marks p) (sym marks) ∙ m))
+      by_said answered is b so marks = inl (called_marks_none p (ap (λ (x : Past). is_marked x.order.held.marks p) (sym marks) ∙ m))
 
 -- ---- runs
 
@@ -237,18 +264,27 @@ module _ (config : Config) (before : Disk) (lines : List Line) (answers : List T
   legal_end : IsLegal (opening_of config) end.past
   legal_end = (runs_ordered config before lines answers end runs).tickets.legal
 
+  -- the placement is the configuration's
+  same_placement : (who : Actor) → leaves_mark end.past.state.opening.placement (stage_at end who (activity_of who end.seats)) ≡ marks_in config end who
+  same_placement who =
+      ap (λ (o : Opening). leaves_mark o.placement (stage_at end who (activity_of who end.seats))) (legal-sound (opening_of config) end.past.history end.past.state legal_end).0
+
 pub hits_mark : HitsMark
-hits_mark config before lines answers end runs who outcome after turn t place hits =
+hits_mark config before lines answers end runs who outcome after turn t place hits leaves =
     elim (turn_asks end after who outcome turn) [
       | inl same ↦ absurd (shorter hits.entry end.past.history (sym (ap (λ (p : Past). p.history) same) ∙ hits.newest))
-      | inr asks ↦ (let page = told_hit end after asks t place hits in (page.hit.p, page.hit.shown, page.marked))
+      | inr asks ↦ (let page = told_hit end _ after asks t place hits (same_placement config before lines answers end runs who ∙ leaves) in (page.hit.p, page.hit.shown, page.marked))
     ]
 
 pub only_hits_mark : OnlyHitsMark
 only_hits_mark config before lines answers end runs who outcome after turn p m =
     elim (turn_asks end after who outcome turn) [
       | inl same ↦ inl (ap (λ (x : Past). is_marked x.order.held.marks p) (sym same) ∙ m)
-      | inr asks ↦ only_hit end after asks (opening_of config) (legal_end config before lines answers end runs) p m
+      | inr asks ↦
+          elim (only_hit end _ after asks (opening_of config) (legal_end config before lines answers end runs) p m) [
+            | inl was ↦ inl was
+            | inr hit ↦ inr (hit.0, hit.1, hit.2, hit.3, sym (same_placement config before lines answers end runs who) ∙ hit.4)
+          ]
     ]
 
 pub merges_are_served : MergesAreServed

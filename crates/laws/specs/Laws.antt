@@ -1,8 +1,9 @@
 -- The headline in the words of its users: what holds of every step and of every run.
-use Rattle.std.specs.Prelude.{◌≡◌, ◌≢◌, ◌⊎◌, ℕ, ◌+◌, ◌<◌, ◌≤◌, ◌==◌, ◌&&◌, if◌then◌else◌, Bool, true, false, List, ◌∷◌, ◌++◌, length, sum_by, Option, Some, None, slice_get, slice_set}
+use Rattle.std.specs.Prelude.{◌≡◌, ◌≢◌, ◌⊎◌, ℕ, ◌+◌, ◌<◌, ◌≤◌, ◌==◌, ◌&&◌, if◌then◌else◌, Bool, true, false, List, ◌∷◌, ◌++◌, length, sum_by, Ok, Err, Option, Some, None, slice_get, slice_set}
 use Rattle.std.specs.List.{AllByRecursion}
 use Rattle.machine.specs.declared.amount.Amount.TheVariants.{Pages}
 use Rattle.machine.specs.declared.config.Config.{Config}
+use Rattle.machine.specs.declared.config.Placement.{Placement}
 use Rattle.machine.specs.declared.entry.Entry.{Entry}
 use Rattle.machine.specs.declared.id.FrameId.{FrameId}
 use Rattle.machine.specs.declared.id.GroupId.{GroupId}
@@ -52,10 +53,14 @@ use Rattle.machine.specs.declared.command.Answer.TheVariants as answer
 use Rattle.machine.specs.declared.command.Word.TheVariants as word
 use Rattle.machine.specs.declared.refusal.Refusal.TheVariants.{Stranger, NoMemory}
 use Rattle.block_store.specs.Device.{Disk}
+use Rattle.turns.specs.declared.turn.Stage.{Stage}
+use Rattle.turns.specs.declared.turn.Stage.TheVariants as stage
+use Rattle.turns.specs.Turns.{Judged, judged, marks_by}
 use Rattle.driver.specs.declared.seat.Outcome.{Outcome}
-use Rattle.driver.specs.declared.seat.Activity.TheVariants.{Rests}
+use Rattle.driver.specs.declared.seat.Activity.{Activity}
+use Rattle.driver.specs.declared.seat.Activity.TheVariants.{Rests, Begun, Does}
 use Rattle.driver.specs.declared.seat.Seat.{Seat}
-use Rattle.driver.specs.Schedule.{World, first_world, Turn, Runs, files_on, fits, errors}
+use Rattle.driver.specs.Schedule.{World, first_world, activity_of, Turn, Runs, files_on, fits, errors}
 use Rattle.driver.specs.Hands.{errors_owed, tickets_in_hand}
 
 -- the history of every run leads from the opening to the run's state, one step of the machine an entry
@@ -323,12 +328,13 @@ GroupsHaveCursors =
 
 -- how the lists go on where no page is taken. A group more begins with no page. The pages of a group that goes are on its parent's lists, in the second youngest generation behind those
 -- that are there, the oldest first, and marked as they were. Marks that are merged move no page. Otherwise what is held no more leaves its list, all others stay as they
--- stood, marked as they were, and what comes to be held, one page at most, enters a generation of its group: the second youngest where it was read in, and else the youngest
+-- stood, marked as they were, and what comes to be held, one page at most, enters a generation of its group: where it was read in, the one that the placement says, and else the
+-- youngest
 abbrev pub ListsGoOn : Past → Event → Reply → Past → Type 0
 ListsGoOn before (event.Mkdir path) answer after = after.order.held ≡ with_group before.order.held
 ListsGoOn before (event.Rmdir g) answer after = RemovesLists (node_at before.state.tree g.0).parent g.0 before.order after.order
 ListsGoOn before (event.MergeMarks word bits) answer after = MergesMarks before.state.pages word bits before.order.held after.order.held
-ListsGoOn before what answer after = GoesOn (generation_for what) before.state.pages before.order.held after.state.pages after.order.held
+ListsGoOn before what answer after = GoesOn (generation_for before.state.opening.placement what) before.state.pages before.order.held after.state.pages after.order.held
 
 -- so it is in every call that changes anything and takes no page. (Excludes lists whose order is made up anew, a page that comes to be held before another of its generation,
 -- one that comes marked, and one that is on no list when its group has gone.)
@@ -356,19 +362,39 @@ pub record Hits (before after : Past) (t : TaskId) (place : Place) : Type 0 wher
   pub frame : FrameId
   pub answered : entry.reply ≡ reply.Done byte (Some frame)
 
--- whatever a run led to, the turn of an access that is answered by a hit leaves the page that its place shows marked. (Excludes a page that was used and is evicted as if it were not.)
+-- where the turn of an actor that is at this takes its command on: where that stands, or where it begins
+abbrev pub begins_at : Judged → Option Stage
+begins_at (Ok stage) = Some stage
+begins_at (Err why) = None
+
+abbrev pub stage_at : World → Actor → Activity → Option Stage
+stage_at w who Rests = None
+stage_at w who (Begun what) = begins_at (judged w.past.state.tree who what)
+stage_at w who (Does stage) = Some stage
+
+-- a hit there leaves a mark: by our own placement each does, and as Linux places pages each but that of an access to a file that had its page read in
+abbrev pub leaves_mark : Placement → Option Stage → Bool
+leaves_mark placement (Some (stage.Try access)) = marks_by placement access
+leaves_mark placement at = true
+
+abbrev pub marks_in : Config → World → Actor → Bool
+marks_in config w who = leaves_mark config.placement (stage_at w who (activity_of who w.seats))
+
+-- whatever a run led to, the turn of an access that is answered by a hit leaves the page that its place shows marked, where it leaves a mark. (Excludes a page that was used and is
+-- evicted as if it were not.)
 abbrev pub HitsMark : Type 0
 HitsMark =
     (config : Config) (before : Disk) (steps : List Line) (answers : List Told_by) (end : World) → Runs (first_world config before) steps answers end
     → (who : Actor) (outcome : Outcome) (after : World) → Turn end who outcome after → (t : TaskId) (place : Place) → Hits end.past after.past t place
-    → (p : ℕ) × (shown_at end.past.state t.0 place ≡ Some p) × (is_marked after.past.order.held.marks p ≡ true)
+    → marks_in config end who ≡ true → (p : ℕ) × (shown_at end.past.state t.0 place ≡ Some p) × (is_marked after.past.order.held.marks p ≡ true)
 
--- and no turn marks a page otherwise. (Excludes a page that is marked as it is made, copied or read in, one that a search marks, and another page of the hit's word.)
+-- and no turn marks a page otherwise. (Excludes a page that is marked as it is made, copied or read in, one that a search marks, another page of the hit's word, and, as Linux places
+-- pages, a page of a file that counts as used because it came.)
 abbrev pub OnlyHitsMark : Type 0
 OnlyHitsMark =
     (config : Config) (before : Disk) (steps : List Line) (answers : List Told_by) (end : World) → Runs (first_world config before) steps answers end
     → (who : Actor) (outcome : Outcome) (after : World) → Turn end who outcome after → (p : ℕ) → is_marked after.past.order.held.marks p ≡ true
-    → (is_marked end.past.order.held.marks p ≡ true) ⊎ ((t : TaskId) × (place : Place) × Hits end.past after.past t place × (shown_at end.past.state t.0 place ≡ Some p))
+    → (is_marked end.past.order.held.marks p ≡ true) ⊎ ((t : TaskId) × (place : Place) × Hits end.past after.past t place × (shown_at end.past.state t.0 place ≡ Some p) × (marks_in config end who ≡ true))
 
 -- of the calls of a book only a merge marks pages: those held in the frames of its bits. (Excludes an access that marks what it used, and a mark for the page that had a frame before.)
 abbrev pub OnlyMergesMark : Type 0

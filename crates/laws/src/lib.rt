@@ -175,7 +175,7 @@ pub fn groups_have_cursors()
 
 /// A call that changes anything and takes no page lets the lists of held pages go on. Marks that are merged
 /// move none. What is held no more leaves its list, and all others stay as they stood; and what comes to be
-/// held, one page at most, enters a generation of its group, unmarked: the second youngest where it was
+/// held, one page at most, enters a generation of its group, unmarked: that of the placement where it was
 /// read in, and else the youngest. A group more begins with no page. The pages of a group that goes are
 /// on its parent's lists, behind those of the second youngest generation, the oldest first, and marked as
 /// they were.
@@ -188,7 +188,8 @@ pub fn only_takes_age()
     ensures { OnlyTakesAge }
 {}
 
-/// A turn in which an access uses a page as it is marks it.
+/// A turn in which an access uses a page as it is marks it; but, as Linux places pages, that of an access to a file
+/// that had its page read in.
 pub fn hits_mark()
     ensures { HitsMark }
 {}

@@ -21,7 +21,7 @@ use crate::shared_book::SharedBook;
 use crate::shares::has_share;
 use block_store::SharedDevice;
 use book::Book;
-use machine::config::{Config, Watermarks};
+use machine::config::{Config, Placement, Watermarks};
 use machine::refusal::Refusal;
 use std::alloc::{AllocError, Global};
 use std::sync::ledger::{Blank, Ledger};
@@ -40,8 +40,10 @@ pub struct Live<L: Ledger + Opened, D: SharedDevice> {
     pub(crate) moved: Condvar,
     pub(crate) device: D,
     pub(crate) marks: Watermarks,
+    pub(crate) placement: Placement,
     pub(crate) alloc: Global,
     ghost marked: { marks ≡ L.opening.watermarks },
+    ghost placed: { placement ≡ L.opening.placement },
     ghost fits: { blocks_in L.opening ≤ D.extent device },
 }
 
@@ -65,6 +67,7 @@ impl<L: Ledger + Opened, D: SharedDevice> Live<L, D> {
         ensures back { IfErr result (λ e. e.0 ≡ device) }
     {
         let marks = config.watermarks;
+        let placement = config.placement;
         let frames = config.frames;
         let book = match Book::open(alloc, config) {
             Err(cause) => return Err((device, cause)),
@@ -81,6 +84,7 @@ impl<L: Ledger + Opened, D: SharedDevice> Live<L, D> {
                 moved: Condvar::new(),
                 device,
                 marks,
+                placement,
                 alloc,
             }),
         }
@@ -163,6 +167,7 @@ impl<L: Ledger + Opened, D: SharedDevice + Drop> Live<L, D> {
             moved,
             device,
             marks,
+            placement,
             alloc,
         } = self;
         let shared = shared.into_inner();
@@ -174,6 +179,7 @@ impl<L: Ledger + Opened, D: SharedDevice + Drop> Live<L, D> {
                     moved,
                     device,
                     marks,
+                    placement,
                     alloc,
                 };
                 Err((live, passes, cause))
@@ -198,6 +204,7 @@ impl<L: Ledger + Opened, D: SharedDevice + Drop> Live<L, D> {
             moved: _,
             device: _,
             marks: _,
+            placement: _,
             alloc: _,
         } = self;
         let _trace = shared.into_inner().close();

@@ -14,6 +14,7 @@ pub trait Opened {
 /// The proof of each call of a function for this type picks the opening.
 impl Opened for Brand {
     ghost use Rattle.std.specs.Prelude.{[], false};
+    ghost use Rattle.machine.specs.declared.config.Placement.TheVariants.{Own};
 
-    ghost opening = { record { frames = 0; swap = 0; files = []; watermarks = record { low = 0; high = 0 }; trace_limit = 0; recursive = false } };
+    ghost opening = { record { frames = 0; swap = 0; files = []; watermarks = record { low = 0; high = 0 }; trace_limit = 0; recursive = false; placement = Own } };
 }

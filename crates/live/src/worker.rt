@@ -47,8 +47,8 @@ fn is_end(event: &Event) -> bool
 }
 
 impl<L: Ledger + Opened, D: SharedDevice> Live<L, D> {
-    /// One event. A page that it hits is marked once the lock is let go of.
-    fn call<R: Wait>(&self, rt: &R, pass: &mut Pass<L>, event: Event) -> Reply
+    /// One event. A page that it hits is marked, if it is to be, once the lock is let go of.
+    fn call<R: Wait>(&self, rt: &R, pass: &mut Pass<L>, event: Event, marks: bool) -> Reply
         requires room { 0 < pass.old.room }
         requires own { OwnEvent pass.old.caller.worker (blocks_in L.opening) event }
         ensures kept { pass.new ≡ keeping pass.old (call_of (event_of event) (reply_of result)) }
@@ -65,7 +65,9 @@ impl<L: Ledger + Opened, D: SharedDevice> Live<L, D> {
             }
             reply
         };
-        pass.mark(&reply);
+        if marks {
+            pass.mark(&reply);
+        }
         reply
     }
 
@@ -106,7 +108,8 @@ impl<L: Ledger + Opened, D: SharedDevice> Live<L, D> {
         ensures share { IfOk result (λ t. Carries pass.old.kept (one_if (is_ending event)) pass.new.kept (one_if (holds_after t))) }
         ensures share_at_err { OnErr result (Carries pass.old.kept (one_if (is_ending event)) pass.new.kept 0) }
     {
-        let reply = self.call(rt, pass, event);
+        let marks = pending.marks_hit(self.placement);
+        let reply = self.call(rt, pass, event, marks);
         told(self.alloc, pending, reply)
     }
 

@@ -12,7 +12,7 @@ use Rattle.machine.specs.Slots.{there_and}
 use Rattle.machine.specs.Pages.{Page, Pages, page_at, is_held, is_held_in, is_number}
 use Rattle.machine.specs.Generations.{Listed, Row, Gens, new_gens, row_of, has_page, is_listed, without, entered, added, isolated, gens_at, with_gens, IsRising}
 use Rattle.machine.specs.Aging.{is_marked}
-use Rattle.machine.specs.Lists.{HeldLists, ListsHeld, AreGenerations, is_fresh, kept_row, kept_gens, Generation, Youngest, SecondYoungest, seq_in, kind_at, with_page, with_fresh, GoesOn}
+use Rattle.machine.specs.Lists.{HeldLists, ListsHeld, AreGenerations, is_fresh, kept_row, kept_gens, Generation, Youngest, SecondYoungest, ByType, seq_in, kind_at, with_page, with_fresh, GoesOn}
 use Rattle.machine.proofs.TreeLemmas.{eq_cases}
 use Rattle.machine.proofs.ListedLemmas.{each-has, each-weaker, none-in, rising-filter}
 use Rattle.machine.proofs.AgingLemmas.{clear-here}
@@ -237,7 +237,7 @@ module _ (generation : Generation) (before after : Pages) (held : HeldLists) (li
   -- a page came to a group's list
   pub goes-on-in : (page : Page) → page_at after p ≡ Some page → is_held page ≡ true → is_held_in before p ≡ false
       → GoesOn generation before held after
-      (let h : HeldLists = record { groups = with_gens held.groups page.group (added p (kind_at page.content) (seq_in generation (gens_at held.groups page.group)) (gens_at held.groups page.group)); marks = held.marks } in h)
+      (let h : HeldLists = record { groups = with_gens held.groups page.group (added p (kind_at page.content) (seq_in generation (kind_at page.content) (gens_at held.groups page.group)) (gens_at held.groups page.group)); marks = held.marks } in h)
   goes-on-in page there here absent =
       record {
         fresh = Some p;
@@ -358,21 +358,23 @@ module _ (generation next : Generation) (before between after : Pages) (xs ys zs
           by_page (Some page) there = map-set (kept_gens after) stayed page.group x ∙ ap (λ (gs : List Gens). with_gens gs page.group (kept_gens after x)) kept-stayed ∙ by_held (is_held_in after p) refl
             where
               x : Gens
-              x = added p (kind_at page.content) (seq_in generation (gens_at stayed page.group)) (gens_at stayed page.group)
+              x = added p (kind_at page.content) (seq_in generation (kind_at page.content) (gens_at stayed page.group)) (gens_at stayed page.group)
 
-              same_seq : (gen : Generation) (y z : Gens) → y ≡ kept_gens after z → seq_in gen z ≡ seq_in gen y
-              same_seq gen y z e = by_gen gen ∙ ap (seq_in gen) (sym e)
+              same_seq : (gen : Generation) (kind : Kind) (y z : Gens) → y ≡ kept_gens after z → seq_in gen kind z ≡ seq_in gen kind y
+              same_seq gen kind y z e = by_gen gen kind ∙ ap (seq_in gen kind) (sym e)
                 where
-                  by_gen : (gen : Generation) → seq_in gen z ≡ seq_in gen (kept_gens after z)
-                  by_gen Youngest = refl
-                  by_gen SecondYoungest = refl
+                  by_gen : (gen : Generation) (kind : Kind) → seq_in gen kind z ≡ seq_in gen kind (kept_gens after z)
+                  by_gen Youngest kind = refl
+                  by_gen SecondYoungest kind = refl
+                  by_gen ByType Anon = refl
+                  by_gen ByType File = refl
 
               by_held : (b : Bool) → is_held_in after p ≡ b → with_gens kept page.group (kept_gens after x) ≡ with_fresh generation after (cond b (Some p) None) kept
               by_held true here =
                   ap (with_gens kept page.group) (
-                  kept-added after p (kind_at page.content) (seq_in generation (gens_at stayed page.group)) (gens_at stayed page.group) here
-                  ∙ ap (λ (n : ℕ). added p (kind_at page.content) n (kept_gens after (gens_at stayed page.group))) (same_seq generation (gens_at kept page.group) (gens_at stayed page.group) (kept-at page.group))
-                  ∙ ap (added p (kind_at page.content) (seq_in generation (gens_at kept page.group))) (sym (kept-at page.group)))
+                  kept-added after p (kind_at page.content) (seq_in generation (kind_at page.content) (gens_at stayed page.group)) (gens_at stayed page.group) here
+                  ∙ ap (λ (n : ℕ). added p (kind_at page.content) n (kept_gens after (gens_at stayed page.group))) (same_seq generation (kind_at page.content) (gens_at kept page.group) (gens_at stayed page.group) (kept-at page.group))
+                  ∙ ap (added p (kind_at page.content) (seq_in generation (kind_at page.content) (gens_at kept page.group))) (sym (kept-at page.group)))
                   ∙ sym (ap (λ (o : Option Page). with_page generation p o kept) (stays p here ∙ there))
               by_held false gone =
-                  ap (with_gens kept page.group) (gone-added after p (kind_at page.content) (seq_in generation (gens_at stayed page.group)) (gens_at stayed page.group) gone (rises page.group) ∙ sym (kept-at page.group)) ∙ set-get_or kept page.group new_gens
+                  ap (with_gens kept page.group) (gone-added after p (kind_at page.content) (seq_in generation (kind_at page.content) (gens_at stayed page.group)) (gens_at stayed page.group) gone (rises page.group) ∙ sym (kept-at page.group)) ∙ set-get_or kept page.group new_gens

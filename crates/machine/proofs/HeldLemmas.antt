@@ -1,5 +1,5 @@
 -- The pages that are held, and the lists that they are on: how these go on together.
-use Rattle.std.proofs.Common.{◌≡◌, ℕ, zero, suc, ◌+◌, ◌<◌, ◌≤◌, ◌||◌, ◌&&◌, not, Bool, true, false, cond, eqb, List, [], ◌∷◌, ◌++◌, length, map, filter, Option, Some, None, refl, sym, ap, ◌∙◌, subst, arith, length-set, get_or-set_other}
+use Rattle.std.proofs.Common.{◌≡◌, ℕ, zero, suc, ◌+◌, ◌<◌, ◌≤◌, ◌||◌, ◌&&◌, not, nat_lt, Bool, true, false, cond, eqb, List, [], ◌∷◌, ◌++◌, length, map, filter, Option, Some, None, refl, sym, ap, ◌∙◌, subst, arith, length-set, get_or-set_other}
 use Rattle.std.specs.Prelude.{slice_set, replicate}
 use Rattle.std.specs.Option.{IfSome}
 use Rattle.std.specs.List.{AllByRecursion}
@@ -12,7 +12,7 @@ use Rattle.machine.specs.Pages.{Content, Memory, OfFile, Page, Pages, page_at, i
 use Rattle.machine.specs.Generations.{Listed, Row, Gens, new_gens, of_kind, row_of, has_page, is_listed, entered, added, gens_at, with_gens, IsRow, IsGens}
 use Rattle.machine.specs.Aging.{is_marked}
 use Rattle.machine.specs.State.{Opening}
-use Rattle.machine.specs.Lists.{HeldLists, first_order, kind_at, is_held_of, ListsHeld, AreGenerations, is_fresh, kept_row, kept_gens, Generation, Youngest, SecondYoungest, seq_in, with_page, with_fresh, GoesOn, with_group}
+use Rattle.machine.specs.Lists.{HeldLists, first_order, kind_at, is_held_of, ListsHeld, AreGenerations, is_fresh, kept_row, kept_gens, Generation, Youngest, SecondYoungest, ByType, seq_in, with_page, with_fresh, GoesOn, with_group}
 use Rattle.machine.proofs.ListedLemmas.{each-filter, each-weaker, each-has, has-entered, has-filter, none-filter, rising-filter, distinct-filter, distinct-front, distinct-back, distinct-apart, distinct-append, each-entered, rising-entered, distinct-entered}
 
 -- a page that is held before and after keeps its group and its type
@@ -138,7 +138,7 @@ module _ (before after : Pages) (held : HeldLists) (were : ListsHeld before held
         → has_page p (row_of kind (gens_at (with_page generation f o (staying after held)) g)).pages ≡ there_and (is_held_of g kind) (page_at after p)
     rows-come f which None e g kind p = absurd (true≢false (sym (eq-eqb f f refl) ∙ which f ∙ ap (λ (o : Option Page). there_and is_held o && not (is_held_in before f)) e))
     rows-come f which (Some page) e g kind p =
-        has-come g kind f page (seq_in generation (gens_at (staying after held) page.group)) p within
+        has-come g kind f page (seq_in generation (kind_at page.content) (gens_at (staying after held) page.group)) p within
         ∙ by_page (eqb f p) refl
       where
         fresh : (is_held_in after f ≡ true) × (not (is_held_in before f) ≡ true)
@@ -245,8 +245,8 @@ page-keeps : {X : Type 0} (read : Gens → X) → ((p : ℕ) (kind : Kind) (seq 
     → read (gens_at (with_page generation p o groups) g) ≡ read (gens_at groups g)
 page-keeps read same generation p None groups g = refl
 page-keeps read same generation p (Some page) groups g =
-    at-set (λ (x : Gens). read x ≡ read (gens_at groups g)) groups page.group g (added p (kind_at page.content) (seq_in generation (gens_at groups page.group)) (gens_at groups page.group))
-    (λ e. same p (kind_at page.content) (seq_in generation (gens_at groups page.group)) (gens_at groups page.group) ∙ ap (λ (i : ℕ). read (gens_at groups i)) e) refl
+    at-set (λ (x : Gens). read x ≡ read (gens_at groups g)) groups page.group g (added p (kind_at page.content) (seq_in generation (kind_at page.content) (gens_at groups page.group)) (gens_at groups page.group))
+    (λ e. same p (kind_at page.content) (seq_in generation (kind_at page.content) (gens_at groups page.group)) (gens_at groups page.group) ∙ ap (λ (i : ℕ). read (gens_at groups i)) e) refl
 
 fresh-keeps : {X : Type 0} (read : Gens → X) → ((p : ℕ) (kind : Kind) (seq : ℕ) (x : Gens) → read (added p kind seq x) ≡ read x) → (generation : Generation) (after : Pages) (fresh : Option ℕ) (groups : List Gens) (g : ℕ)
     → read (gens_at (with_fresh generation after fresh groups) g) ≡ read (gens_at groups g)
@@ -299,13 +299,12 @@ row-entered p seq top row r low high = record {
   four = r.four;
 }
 
--- a page that was on no list of the group enters one of its two youngest generations
-pub added-sound : (p : ℕ) (kind : Kind) (seq : ℕ) (x : Gens) → IsGens x → is_listed x p ≡ false → x.max_seq ≤ seq + 1 → seq ≤ x.max_seq → IsGens (added p kind seq x)
+-- a page that was on no list of the group enters one of its generations
+pub added-sound : (p : ℕ) (kind : Kind) (seq : ℕ) (x : Gens) → IsGens x → is_listed x p ≡ false → (row_of kind x).min_seq ≤ seq → seq ≤ x.max_seq → IsGens (added p kind seq x)
 added-sound p Anon seq x s none low high =
     let alone = or_parts (has_page p x.file.pages) (has_page p x.anon.pages) none in
-    let least : x.anon.min_seq ≤ seq = (let two = s.anon.two in omega arith) in
     record {
-      anon = row-entered p seq x.max_seq x.anon s.anon least high;
+      anon = row-entered p seq x.max_seq x.anon s.anon low high;
       file = s.file;
       distinct =
           distinct-append (entered p seq x.anon.pages) x.file.pages (distinct-entered p seq x.anon.pages alone.1 (distinct-front x.anon.pages x.file.pages s.distinct)) (distinct-back x.anon.pages x.file.pages s.distinct)
@@ -317,10 +316,9 @@ added-sound p Anon seq x s none low high =
     by_page q false e alone h = distinct-apart x.anon.pages x.file.pages s.distinct q (ap (λ (b : Bool). b || has_page q x.anon.pages) (sym e) ∙ h)
 added-sound p File seq x s none low high =
     let alone = or_parts (has_page p x.file.pages) (has_page p x.anon.pages) none in
-    let least : x.file.min_seq ≤ seq = (let two = s.file.two in omega arith) in
     record {
       anon = s.anon;
-      file = row-entered p seq x.max_seq x.file s.file least high;
+      file = row-entered p seq x.max_seq x.file s.file low high;
       distinct =
           distinct-append x.anon.pages (entered p seq x.file.pages) (distinct-front x.anon.pages x.file.pages s.distinct) (distinct-entered p seq x.file.pages alone.0 (distinct-back x.anon.pages x.file.pages s.distinct))
           (λ q h. has-entered p seq q x.file.pages ∙ by_page q (eqb p q) refl alone.1 h ∙ distinct-apart x.anon.pages x.file.pages s.distinct q h);
@@ -330,16 +328,36 @@ added-sound p File seq x s none low high =
     by_page q true e alone h = absurd (true≢false (sym h ∙ subst (λ (i : ℕ). has_page i x.anon.pages ≡ false) (eqb-true p q e) alone))
     by_page q false e alone h = refl
 
-seq-within : (generation : Generation) (x : Gens) → (x.max_seq ≤ seq_in generation x + 1) × (seq_in generation x ≤ x.max_seq)
-seq-within Youngest x = (omega arith, omega arith)
-seq-within SecondYoungest x = (omega arith, omega arith)
+-- a type's oldest generation is not its youngest
+pub oldest-youngest : (kind : Kind) (x : Gens) → IsGens x → (row_of kind x).min_seq + 1 ≤ x.max_seq
+oldest-youngest Anon x s = s.anon.two
+oldest-youngest File x s = s.file.two
+
+-- the generation that a page enters is one of its type's
+pub seq-within : (generation : Generation) (kind : Kind) (x : Gens) → IsGens x → ((row_of kind x).min_seq ≤ seq_in generation kind x) × (seq_in generation kind x ≤ x.max_seq)
+seq-within generation Anon x s = by_generation generation
+  where
+    by_generation : (generation : Generation) → (x.anon.min_seq ≤ seq_in generation Anon x) × (seq_in generation Anon x ≤ x.max_seq)
+    by_generation Youngest = (let two = s.anon.two in omega arith, omega arith)
+    by_generation SecondYoungest = (let two = s.anon.two in omega arith, omega arith)
+    by_generation ByType = (let two = s.anon.two in omega arith, omega arith)
+seq-within generation File x s = by_generation generation
+  where
+    by_old : (is_old : Bool) → (x.file.min_seq ≤ cond is_old (x.file.min_seq + 1) x.file.min_seq) × (cond is_old (x.file.min_seq + 1) x.file.min_seq ≤ x.max_seq)
+    by_old true = (omega arith, s.file.two)
+    by_old false = (omega arith, (let two = s.file.two in omega arith))
+
+    by_generation : (generation : Generation) → (x.file.min_seq ≤ seq_in generation File x) × (seq_in generation File x ≤ x.max_seq)
+    by_generation Youngest = (let two = s.file.two in omega arith, omega arith)
+    by_generation SecondYoungest = (let two = s.file.two in omega arith, omega arith)
+    by_generation ByType = by_old (nat_lt (x.file.min_seq + 2) x.max_seq)
 
 page-sound : (generation : Generation) (p : ℕ) (o : Option Page) (groups : List Gens) → ((g : ℕ) → IsGens (gens_at groups g)) → ((g : ℕ) → is_listed (gens_at groups g) p ≡ false) → (g : ℕ) → IsGens (gens_at (with_page generation p o groups) g)
 page-sound generation p None groups sound none g = sound g
 page-sound generation p (Some page) groups sound none g =
     let x : Gens = gens_at groups page.group in
-    let within = seq-within generation x in
-    at-set IsGens groups page.group g (added p (kind_at page.content) (seq_in generation x) x) (λ e. added-sound p (kind_at page.content) (seq_in generation x) x (sound page.group) (none page.group) within.0 within.1) (sound g)
+    let within = seq-within generation (kind_at page.content) x (sound page.group) in
+    at-set IsGens groups page.group g (added p (kind_at page.content) (seq_in generation (kind_at page.content) x) x) (λ e. added-sound p (kind_at page.content) (seq_in generation (kind_at page.content) x) x (sound page.group) (none page.group) within.0 within.1) (sound g)
 
 fresh-sound : (generation : Generation) (after : Pages) (fresh : Option ℕ) (groups : List Gens) → ((g : ℕ) → IsGens (gens_at groups g)) → ((p : ℕ) → is_number fresh p ≡ true → (g : ℕ) → is_listed (gens_at groups g) p ≡ false) → (g : ℕ)
     → IsGens (gens_at (with_fresh generation after fresh groups) g)

@@ -2,14 +2,25 @@
 use Rattle.std.proofs.Common.{◌⊎◌, inl, inr, ◌≡◌, ◌≢◌, ℕ, zero, suc, ◌<◌, ◌==◌, ◌||◌, Bool, true, false, cond, List, [], ◌∷◌, ◌++◌, Option, Some, None, refl, sym, ap, ◌∙◌, subst, arith}
 use Rattle.std.specs.Prelude.{filter}
 use Rattle.std.specs.List.{last_or}
-use Rattle.std.proofs.lemmas.Bool.{cases_Bool}
+use Rattle.std.proofs.lemmas.Bool.{cases_Bool, and_parts}
 use Rattle.std.proofs.lemmas.Bool.Decides.{nat_tests}
 use Rattle.machine.specs.declared.record.OomGroup.{OomGroup}
+use Rattle.machine.specs.declared.record.Task.{Task}
+use Rattle.machine.specs.Slots.{there_and}
 use Rattle.machine.specs.Tree.{Node, node_at, IsTree, under, under_at}
-use Rattle.machine.specs.Victim.{is_flagged, chain_to, kill_group}
+use Rattle.machine.specs.Tasks.{Tasks, task_at, is_live_task, lives, group_of, group_of_task}
+use Rattle.machine.specs.Victim.{is_live_under, is_candidate, is_flagged, chain_to, kill_group}
 use Rattle.machine.proofs.Values.{some_inj, unlike}
 use Rattle.machine.proofs.TreeLemmas.{eq_cases, lt_cases, under_at-None, under_at-step, under_at-beyond}
 use Rattle.machine.proofs.ChainLemmas.{chain_below-step, chain_below-own}
+
+-- a candidate lives, in a group at or under the limit
+pub candidate-parts : (tree : List Node) (tasks : Tasks) (limit t : ℕ) → is_candidate tree tasks limit t ≡ true → (lives tasks t ≡ true) × (under tree limit (group_of_task tasks t) ≡ true)
+candidate-parts tree tasks limit t is = by_slot (task_at tasks t) is
+  where
+    by_slot : (slot : Option Task) → there_and (is_live_under tree limit) slot ≡ true → (there_and is_live_task slot ≡ true) × (under tree limit (group_of slot) ≡ true)
+    by_slot None e = absurd cc
+    by_slot (Some task) e = and_parts (is_live_task task) _ e
 
 last-never : {X : Type 0} (x : X) (xs : List X) → last_or (Some x) xs ≡ None → ⊥
 last-never x [] e = cc

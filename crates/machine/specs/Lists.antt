@@ -1,6 +1,8 @@
 -- The pages that are held, in generation lists by group, and the page that a reclaim takes of them (mm/vmscan.c: shrink_node_memcgs; mm/multigen_lru).
-use Rattle.std.specs.Prelude.{◌≡◌, ℕ, ◌-◌, ◌/◌, ◌%◌, ◌==◌, ◌&&◌, ◌||◌, not, Bool, true, false, List, [], ◌∷◌, ◌++◌, length, map, filter, replicate, slice_set, Option, Some, None}
+use Rattle.std.specs.Prelude.{◌≡◌, ℕ, ◌+◌, ◌-◌, ◌/◌, ◌%◌, ◌==◌, ◌&&◌, ◌||◌, not, nat_lt, Bool, true, false, if◌then◌else◌, List, [], ◌∷◌, ◌++◌, length, map, filter, replicate, slice_set, Option, Some, None}
 use Rattle.std.specs.Int.{bit_at}
+use Rattle.machine.specs.declared.config.Placement.{Placement}
+use Rattle.machine.specs.declared.config.Placement.TheVariants.{Own, Linux}
 use Rattle.machine.specs.declared.record.Direction.{Direction}
 use Rattle.machine.specs.declared.record.Direction.TheVariants.{In, Out}
 use Rattle.machine.specs.declared.record.Kind.{Kind}
@@ -96,31 +98,43 @@ kept_row after row = record { min_seq = row.min_seq; pages = filter (λ l. is_he
 abbrev pub kept_gens : Pages → Gens → Gens
 kept_gens after gens = record { max_seq = gens.max_seq; anon = kept_row after gens.anon; file = kept_row after gens.file }
 
--- a generation that pages enter
+-- a generation that pages enter. By type memory enters the youngest, and a page of a file the second oldest
 pub data Generation : Type 0 where
   Youngest : Generation
   SecondYoungest : Generation
+  ByType : Generation
 
-abbrev pub seq_in : Generation → Gens → ℕ
-seq_in Youngest gens = gens.max_seq
-seq_in SecondYoungest gens = gens.max_seq - 1
+-- the second oldest generation, where it is none of the two youngest, and else the oldest (kernel: lru_gen_add_folio, lru_gen_is_active)
+abbrev pub second_oldest : ℕ → ℕ → ℕ
+second_oldest max_seq min_seq = if nat_lt (min_seq + 2) max_seq then min_seq + 1 else min_seq
+
+abbrev pub seq_in : Generation → Kind → Gens → ℕ
+seq_in Youngest kind gens = gens.max_seq
+seq_in SecondYoungest kind gens = gens.max_seq - 1
+seq_in ByType Anon gens = gens.max_seq
+seq_in ByType File gens = second_oldest gens.max_seq gens.file.min_seq
+
+-- where a page enters that was read in. (Excludes a page of a file among memory that came from swap.)
+abbrev pub entry_in : Placement → Generation
+entry_in Own = SecondYoungest
+entry_in Linux = ByType
 
 -- where a page enters whose transfer ends in its frame. (Excludes a page that was read in among those that were made, and one that failed to leave among those read in.)
-abbrev pub entry_after : Direction → Generation
-entry_after In = SecondYoungest
-entry_after Out = Youngest
+abbrev pub entry_after : Placement → Direction → Generation
+entry_after placement In = entry_in placement
+entry_after placement Out = Youngest
 
 -- where the page enters that an event brings to be held: one that is made or copied the youngest generation. A read-in that fails brings none
-abbrev pub generation_for : Event → Generation
-generation_for (event.Arrived ticket bytes) = entry_after In
-generation_for (event.FetchFailed ticket) = entry_after In
-generation_for what = Youngest
+abbrev pub generation_for : Placement → Event → Generation
+generation_for placement (event.Arrived ticket bytes) = entry_after placement In
+generation_for placement (event.FetchFailed ticket) = entry_after placement In
+generation_for placement what = Youngest
 
 -- a page enters a generation of its group and type, behind those that are there
 abbrev pub with_page : Generation → ℕ → Option Page → List Gens → List Gens
 with_page generation p None groups = groups
 with_page generation p (Some page) groups =
-    with_gens groups page.group (added p (kind_at page.content) (seq_in generation (gens_at groups page.group)) (gens_at groups page.group))
+    with_gens groups page.group (added p (kind_at page.content) (seq_in generation (kind_at page.content) (gens_at groups page.group)) (gens_at groups page.group))
 
 abbrev pub with_fresh : Generation → Pages → Option ℕ → List Gens → List Gens
 with_fresh generation after None groups = groups
@@ -194,7 +208,7 @@ RemovesLists (Some parent) g order order' = order' ≡ record { held = record { 
 
 -- no list is aged, no page is marked, and no cursor moves. (Excludes lists that age though no page is taken, and an access that marks what it used.)
 abbrev pub Keeps : State → Order → Event → Reply → State → Order → Type 0
-Keeps old order what answer new order' = GoesOn (generation_for what) old.pages order.held new.pages order'.held × (order'.cursors ≡ order.cursors)
+Keeps old order what answer new order' = GoesOn (generation_for old.opening.placement what) old.pages order.held new.pages order'.held × (order'.cursors ≡ order.cursors)
 
 -- only a page that is taken ages lists and moves a cursor, and only marks that are merged mark pages
 abbrev pub Orders : State → Order → Event → Reply → State → Order → Type 0

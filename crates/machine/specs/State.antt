@@ -5,6 +5,7 @@ use Rattle.std.specs.Str.{bytes_eq}
 use Rattle.machine.specs.declared.amount.Amount.{Amount}
 use Rattle.machine.specs.declared.config.Config.{Config}
 use Rattle.machine.specs.declared.config.File.{File}
+use Rattle.machine.specs.declared.config.Placement.{Placement}
 use Rattle.machine.specs.declared.config.Watermarks.{Watermarks}
 use Rattle.machine.specs.Names.{is_name}
 use Rattle.machine.specs.Tree.{Node, root}
@@ -20,7 +21,8 @@ use Rattle.machine.specs.declared.record.EventCounts.{EventCounts}
 use Rattle.machine.specs.Counts.{no_limits, no_counts, over}
 use Rattle.machine.specs.Protection.{effective, setting_of}
 
--- what the opening fixes: frames, swap blocks, the sizes of the files in pages, the daemon's marks, the trace's limit, and whether protection is recursive
+-- what the opening fixes: frames, swap blocks, the sizes of the files in pages, the daemon's marks, the trace's limit, whether protection is recursive, and where pages enter that are
+-- read in
 pub record Opening : Type 0 where
   pub frames : ℕ
   pub swap : ℕ
@@ -28,6 +30,7 @@ pub record Opening : Type 0 where
   pub watermarks : Watermarks
   pub trace_limit : ℕ
   pub recursive : Bool
+  pub placement : Placement
 
 -- how many page numbers there are: as many as pages at most, of which each has a frame or a swap block
 abbrev pub page_numbers : Opening → ℕ
@@ -39,7 +42,7 @@ sizes_of files = map (λ file. file.pages) files
 
 -- the opening that a configuration asks for
 abbrev pub opening_of : Config → Opening
-opening_of config = record { frames = config.frames; swap = config.swap; files = sizes_of config.files; watermarks = config.watermarks; trace_limit = config.trace; recursive = config.recursive }
+opening_of config = record { frames = config.frames; swap = config.swap; files = sizes_of config.files; watermarks = config.watermarks; trace_limit = config.trace; recursive = config.recursive; placement = config.placement }
 
 -- the low mark is at most the high one, and that at most the frames
 abbrev pub are_watermarks : Watermarks → ℕ → Bool

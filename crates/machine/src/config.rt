@@ -77,6 +77,19 @@ impl FileList {
     }
 }
 
+/// Where a page enters the generation lists that was read in, and whether the access that had it read in marks it.
+/// Memory that a task makes or copies enters the youngest generation under both, and so does a page that could not be
+/// written out.
+#[derive(Clone, Copy, Debug, PartialEq, Eq)]
+pub enum Placement {
+    /// A rule of our own: the second youngest generation, whatever the page holds; and the access marks it.
+    Own,
+    /// As Linux does it (kernel: `lru_gen_add_folio`): memory that comes from swap enters the youngest generation, and
+    /// a page of a file the second oldest, where that is none of the two youngest, and else the oldest. An access to a
+    /// file doesn't mark a page that it had read in.
+    Linux,
+}
+
 /// How large the machine is.
 #[derive(Debug, Drop)]
 pub struct Config {
@@ -96,6 +109,8 @@ pub struct Config {
     /// Whether a group has a part of the protection that its siblings leave, too (kernel: the mount option
     /// memory_recursiveprot).
     pub recursive: bool,
+    /// Where pages enter the generation lists that are read in.
+    pub placement: Placement,
 }
 
 impl Config {

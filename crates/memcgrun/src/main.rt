@@ -16,7 +16,8 @@ use std::sync::Wait;
 use std::thread::Threads;
 use std::{env, io};
 use subcommands::{
-    chart, read_and_check, read_script, run_script, run_script_on_threads, status_of, status_of_run,
+    Placement, chart, read_and_check, read_script, run_script, run_script_on_threads, status_of,
+    status_of_run,
 };
 use told::{plain_name, tell_no_memory, tell_no_script, tell_no_text};
 use words::{Asked, Refused, Request, Subcommand};
@@ -115,6 +116,7 @@ fn serve<R: Files + AllocGlobal + Threads + Wait + Sync, O: Write, E: Write>(
 /// Checks the scripts of these files, one after the other, whatever comes of those before.
 fn check_all<R: Files + AllocGlobal, O: Write, E: Write>(
     rt: &R,
+    placement: Placement,
     files: &[&str],
     out: &mut O,
     err: &mut E,
@@ -124,7 +126,7 @@ fn check_all<R: Files + AllocGlobal, O: Write, E: Write>(
     let mut all_met = true;
     for file in files {
         let status = match open(rt, file, err) {
-            Some(mut script) => read_and_check(rt.alloc(), file, &mut script, out, err),
+            Some(mut script) => read_and_check(rt.alloc(), placement, file, &mut script, out, err),
             None => FAILED,
         };
         all_met = all_met && status == 0;
@@ -172,7 +174,7 @@ fn start<R: Env + Files + AllocGlobal + Threads + Wait + Sync, O: Write, E: Writ
     };
     match words::read_words(rt.alloc(), &words) {
         Ok(Asked::Script(request)) => serve(rt, request, terminals, out, err),
-        Ok(Asked::Check(files)) => check_all(rt, &files, out, err),
+        Ok(Asked::Check(placement, files)) => check_all(rt, placement, &files, out, err),
         Err(Refused::Text(text)) if !text.use_stderr() => show(out, err, &text),
         Err(Refused::Text(text)) => {
             // The status tells of the failure even where its text can't be written.

@@ -1,9 +1,9 @@
 //! The words of the command line.
 
 use clap::error::ErrorKind;
-use clap::{Arg, ArgAction, Command, Error, value_parser};
+use clap::{Arg, ArgAction, ArgMatches, Command, Error, value_parser};
 use std::alloc::{AllocError, Global};
-use subcommands::{Drawing, Options};
+use subcommands::{Drawing, Options, Placement};
 
 /// The program's version, and the logic in which it is proved, which `rt version` says of a toolchain. What is
 /// proved hangs on the logic, and not on the toolchain's number. `docs/check_commands` compares the logic.
@@ -25,8 +25,8 @@ pub enum Subcommand {
 pub enum Asked<'a> {
     /// To run a script.
     Script(Request<'a>),
-    /// To check the scripts of these paths.
-    Check(Vec<&'a str>),
+    /// To check the scripts of these paths, with this placement.
+    Check(Placement, Vec<&'a str>),
 }
 
 /// A subcommand and the path of its script.
@@ -63,6 +63,8 @@ impl From<AllocError> for Refused {
         Refused::Memory
     }
 }
+
+const AS_LINUX: &str = "as-linux";
 
 const AUDIT: &str = "audit";
 
@@ -101,6 +103,22 @@ fn script<'a>(alloc: Global) -> Arg<'a> {
         .help("The script")
 }
 
+fn as_linux<'a>(alloc: Global) -> Arg<'a> {
+    flag(
+        alloc,
+        AS_LINUX,
+        "Place pages that are read in as Linux does, and not by a rule of our own",
+    )
+}
+
+fn placement_of(matches: &ArgMatches<'_>) -> Placement {
+    if matches.get_flag(AS_LINUX) {
+        Placement::Linux
+    } else {
+        Placement::Own
+    }
+}
+
 /// As it is of subcommands that refuse no line.
 fn explain<'a>(alloc: Global) -> Arg<'a> {
     flag(
@@ -117,6 +135,30 @@ fn turns<'a>(alloc: Global) -> Arg<'a> {
         .value_parser(value_parser!(u32).range(1..))
         .help("The most turns of a line, 1,000 where this is not given")
         .value_name("N")
+}
+
+fn progress<'a>(alloc: Global) -> Arg<'a> {
+    flag(
+        alloc,
+        PROGRESS,
+        "Show on a terminal how many lines are done",
+    )
+}
+
+fn summary<'a>(alloc: Global) -> Arg<'a> {
+    flag(
+        alloc,
+        SUMMARY,
+        "Say at the end how much was done, on standard error",
+    )
+}
+
+fn unbuffered<'a>(alloc: Global) -> Arg<'a> {
+    flag(
+        alloc,
+        UNBUFFERED,
+        "Write each answer as it comes, to a file or a pipe too",
+    )
 }
 
 fn schedule<'a>(alloc: Global) -> Result<Command<'a>, AllocError> {
@@ -140,46 +182,33 @@ fn schedule<'a>(alloc: Global) -> Result<Command<'a>, AllocError> {
         LINES,
         "Put the number of its line before each line of an answer",
     );
-    let progress = flag(
-        alloc,
-        PROGRESS,
-        "Show on a terminal how many lines are done",
-    );
     let quiet = flag(alloc, QUIET, "Leave out the bytes that tasks read");
     let strict = flag(
         alloc,
         STRICT,
         "End the run at the first line that is refused, and say why",
     );
-    let summary = flag(
-        alloc,
-        SUMMARY,
-        "Say at the end how much was done, on standard error",
-    );
-    let unbuffered = flag(
-        alloc,
-        UNBUFFERED,
-        "Write each answer as it comes, to a file or a pipe too",
-    );
     Command::new(alloc, "schedule")
         .about("Runs a script, one turn after another")
         .arg(script(alloc))?
+        .arg(as_linux(alloc))?
         .arg(audit)?
         .arg(explain)?
         .arg(labels)?
         .arg(lines)?
-        .arg(progress)?
+        .arg(progress(alloc))?
         .arg(quiet)?
         .arg(strict)?
-        .arg(summary)?
+        .arg(summary(alloc))?
         .arg(turns(alloc))?
-        .arg(unbuffered)
+        .arg(unbuffered(alloc))
 }
 
 fn run<'a>(alloc: Global) -> Result<Command<'a>, AllocError> {
     Command::new(alloc, "run")
         .about("Runs a script on threads, one for each actor")
         .arg(script(alloc))?
+        .arg(as_linux(alloc))?
         .arg(explain(alloc))
 }
 
@@ -192,6 +221,7 @@ fn chart<'a>(alloc: Global) -> Result<Command<'a>, AllocError> {
     Command::new(alloc, "chart")
         .about("Draws memory.current of each group over the lines of a script, as SVG")
         .arg(script(alloc))?
+        .arg(as_linux(alloc))?
         .arg(csv)?
         .arg(explain(alloc))?
         .arg(turns(alloc))
@@ -205,7 +235,8 @@ fn check<'a>(alloc: Global) -> Result<Command<'a>, AllocError> {
         .help("The scripts");
     Command::new(alloc, "check")
         .about("Says whether scripts print what their lines `#> ..` expect")
-        .arg(scripts)
+        .arg(scripts)?
+        .arg(as_linux(alloc))
 }
 
 fn command<'a>(alloc: Global) -> Result<Command<'a>, AllocError> {
@@ -228,13 +259,15 @@ pub fn read_words<'a>(alloc: Global, words: &'a [String]) -> Result<Asked<'a>, R
     let request = match matches.subcommand() {
         Some(("check", check)) => {
             let files = check.get_strs("FILE").unwrap_or(&[]);
-            return Ok(Asked::Check(Vec::from_slice(alloc, files)?));
+            let files = Vec::from_slice(alloc, files)?;
+            return Ok(Asked::Check(placement_of(check), files));
         }
         Some(("run", run)) => Request {
             subcommand: Subcommand::Run,
             file: run.get_str("FILE").unwrap_or(""),
             options: Options {
                 explain: run.get_flag(EXPLAIN),
+                placement: placement_of(run),
                 ..Options::default()
             },
             is_unbuffered: false,
@@ -248,6 +281,7 @@ pub fn read_words<'a>(alloc: Global, words: &'a [String]) -> Result<Asked<'a>, R
             file: chart.get_str("FILE").unwrap_or(""),
             options: Options {
                 explain: chart.get_flag(EXPLAIN),
+                placement: placement_of(chart),
                 turns: chart.get_one(TURNS).unwrap_or(usual.turns),
                 ..usual
             },
@@ -261,6 +295,7 @@ pub fn read_words<'a>(alloc: Global, words: &'a [String]) -> Result<Asked<'a>, R
                 explain: schedule.get_flag(EXPLAIN),
                 labels: schedule.get_flag(LABELS),
                 lines: schedule.get_flag(LINES),
+                placement: placement_of(schedule),
                 progress: schedule.get_flag(PROGRESS),
                 quiet: schedule.get_flag(QUIET),
                 strict: schedule.get_flag(STRICT),
@@ -473,6 +508,34 @@ mod tests {
     }
 
     #[test]
+    fn pages_are_placed_as_linux_does(rt: HostRuntime) -> Result<(), Fail> {
+        let options = Options {
+            placement: Placement::Linux,
+            ..Options::default()
+        };
+        for line in [
+            "memcgrun schedule --as-linux a",
+            "memcgrun schedule a --as-linux",
+            "memcgrun run --as-linux a",
+            "memcgrun chart --as-linux a",
+        ] {
+            let words = words_of(rt.alloc(), line)?;
+            let Ok(Asked::Script(request)) = read_words(rt.alloc(), &words) else {
+                return Err("refused".into());
+            };
+            assert_eq!(rt; request.file, "a", "{line}");
+            assert_eq!(rt; request.options, options, "{line}");
+        }
+        let words = words_of(rt.alloc(), "memcgrun check --as-linux a b")?;
+        let Ok(Asked::Check(placement, files)) = read_words(rt.alloc(), &words) else {
+            return Err("refused".into());
+        };
+        assert_eq!(rt; files.as_slice(), ["a", "b"].as_slice());
+        assert_eq!(rt; placement, Placement::Linux);
+        Ok(())
+    }
+
+    #[test]
     fn a_check_is_asked_for(rt: HostRuntime) -> Result<(), Fail> {
         let rows = [
             ("memcgrun check a", ["a"].as_slice()),
@@ -481,10 +544,11 @@ mod tests {
         ];
         for (line, wanted) in rows {
             let words = words_of(rt.alloc(), line)?;
-            let Ok(Asked::Check(files)) = read_words(rt.alloc(), &words) else {
+            let Ok(Asked::Check(placement, files)) = read_words(rt.alloc(), &words) else {
                 return Err("refused".into());
             };
             assert_eq!(rt; files.as_slice(), wanted, "{line}");
+            assert_eq!(rt; placement, Placement::Own, "{line}");
         }
         Ok(())
     }

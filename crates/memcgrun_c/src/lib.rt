@@ -11,16 +11,16 @@ ghost use Rattle.std.specs.Str.Lines.{lines};
 ghost use Rattle.scripts.specs.declared.fault.Cause.{Cause};
 ghost use Rattle.scripts.specs.declared.mode.Mode.TheVariants.{Schedule};
 ghost use Rattle.scripts.specs.Script.{IsFirstFault};
-ghost use Rattle.printer.specs.Asked.{plain};
+ghost use Rattle.printer.specs.Asked.{plain_as};
 ghost use Rattle.expectations.specs.Expected.{expected_of};
 ghost use Rattle.subcommands.specs.Scripts.{PrintsScript, PrintsPart};
 ghost use Rattle.subcommands.specs.Charted.{ListsScript};
 ghost use Rattle.memcgrun_c.specs.Buffers.{Got};
-ghost use Rattle.memcgrun_c.specs.Calls.{options_of, WhyNot, Tells};
+ghost use Rattle.memcgrun_c.specs.Calls.{options_of, placement_of, WhyNot, Tells};
 
 use std::alloc::Global;
 use subcommands::{
-    Drawing, Fault, Options, chart, read_and_check, read_script, run_script, status_of,
+    Drawing, Fault, Options, Placement, chart, read_and_check, read_script, run_script, status_of,
 };
 
 /// What stands for the name of the script's file.
@@ -42,6 +42,18 @@ pub struct Asked {
     pub labels: bool,
     /// The first line that is refused ends the run, and is its fault.
     pub strict: bool,
+    /// Pages that are read in are placed as Linux does.
+    pub as_linux: bool,
+}
+
+fn placement_of(as_linux: bool) -> Placement
+    ensures { result ≡ placement_of as_linux }
+{
+    if as_linux {
+        Placement::Linux
+    } else {
+        Placement::Own
+    }
 }
 
 /// The program's options for this.
@@ -51,6 +63,7 @@ fn options_of(asked: Asked) -> Options
     Options {
         labels: asked.labels,
         strict: asked.strict,
+        placement: placement_of(asked.as_linux),
         ..Options::default()
     }
 }
@@ -147,21 +160,32 @@ pub extern "C" fn memcgrun_schedule_into(
 }
 
 /// The table or the picture of a script's run, if the script is no longer than a script may be.
-fn draw(alloc: Global, kind: Drawing, script: &[u8], drawn: &mut Vec<u8>) -> Result<(), Fault>
+fn draw(
+    alloc: Global,
+    kind: Drawing,
+    as_linux: bool,
+    script: &[u8],
+    drawn: &mut Vec<u8>,
+) -> Result<(), Fault>
     requires empty { drawn.old.items ≡ [] }
-    ensures listed { OnOk result (kind ≡ Drawing.Table → ListsScript plain script.now (Some []) (Some drawn.new.items)) }
+    ensures listed { OnOk result (kind ≡ Drawing.Table → ListsScript (plain_as (placement_of as_linux)) script.now (Some []) (Some drawn.new.items)) }
     ensures faulty { (n : ℕ) (cause : Cause) → IsFirstFault Schedule (lines script.now) n cause → IsErr result × (drawn.new.items ≡ []) }
-    ensures why { IfErr result (WhyNot plain script.now) }
+    ensures why { IfErr result (WhyNot (plain_as (placement_of as_linux)) script.now) }
 {
     let mut reader = script;
     let bytes = read_script(alloc, &mut reader)?;
-    chart(alloc, Options::default(), kind, NAME, &bytes, drawn)
+    let options = Options {
+        placement: placement_of(as_linux),
+        ..Options::default()
+    };
+    chart(alloc, options, kind, NAME, &bytes, drawn)
 }
 
 /// The status of that, with the lines that say why it failed.
 fn chart_status(
     alloc: Global,
     kind: Drawing,
+    as_linux: bool,
     script: &[u8],
     drawn: &mut Vec<u8>,
     fault: &mut Vec<u8>,
@@ -169,12 +193,12 @@ fn chart_status(
     requires empty { drawn.old.items ≡ [] }
     requires unsaid { fault.old.items ≡ [] }
     ensures success_or_failure { result ≤ 1 }
-    ensures listed { kind ≡ Drawing.Table → result ≡ 0 → ListsScript plain script.now (Some []) (Some drawn.new.items) }
+    ensures listed { kind ≡ Drawing.Table → result ≡ 0 → ListsScript (plain_as (placement_of as_linux)) script.now (Some []) (Some drawn.new.items) }
     ensures silent { result ≡ 0 → fault.new.items ≡ [] }
     ensures faulty { (n : ℕ) (cause : Cause) → IsFirstFault Schedule (lines script.now) n cause → (result ≡ 1) × (drawn.new.items ≡ []) }
-    ensures told { result ≡ 1 → Tells plain script.now fault.new.items }
+    ensures told { result ≡ 1 → Tells (plain_as (placement_of as_linux)) script.now fault.new.items }
 {
-    let ran = draw(alloc, kind, script, drawn);
+    let ran = draw(alloc, kind, as_linux, script, drawn);
     status_of(ran, fault)
 }
 
@@ -196,23 +220,31 @@ pub extern "C" fn memcgrun_chart_into(
     alloc: Global,
     script: &[u8],
     table: bool,
+    as_linux: bool,
     out: &mut [u8],
     err: &mut [u8],
     lengths: &mut Lengths,
 ) -> u8
     ensures success_or_failure { result ≤ 1 }
     // Where it is 0, and a table was asked for, `out` got the table; how a picture looks is only tested.
-    ensures listed { table ≡ true → result ≡ 0 → (bytes : List ℕ) × ListsScript plain script.now (Some []) (Some bytes) × Got out.old out.new bytes × (lengths.new.out ≡ length bytes) }
+    ensures listed { table ≡ true → result ≡ 0 → (bytes : List ℕ) × ListsScript (plain_as (placement_of as_linux)) script.now (Some []) (Some bytes) × Got out.old out.new bytes × (lengths.new.out ≡ length bytes) }
     ensures out { (bytes : List ℕ) × Got out.old out.new bytes × (lengths.new.out ≡ length bytes) }
     ensures silent { result ≡ 0 → (lengths.new.err ≡ 0) × (err.new ≡ err.old) }
     // Of a script with a faulty line it is 1, and `out` got nothing.
     ensures faulty { (n : ℕ) (cause : Cause) → IsFirstFault Schedule (lines script.now) n cause → (result ≡ 1) × (lengths.new.out ≡ 0) × (out.new ≡ out.old) }
     // Where it is 1, `err` got what says why.
-    ensures told { result ≡ 1 → (text : List ℕ) × Tells plain script.now text × Got err.old err.new text × (lengths.new.err ≡ length text) }
+    ensures told { result ≡ 1 → (text : List ℕ) × Tells (plain_as (placement_of as_linux)) script.now text × Got err.old err.new text × (lengths.new.err ≡ length text) }
 {
     let mut drawn = Vec::new(alloc);
     let mut fault = Vec::new(alloc);
-    let status = chart_status(alloc, drawing(table), script, &mut drawn, &mut fault);
+    let status = chart_status(
+        alloc,
+        drawing(table),
+        as_linux,
+        script,
+        &mut drawn,
+        &mut fault,
+    );
     *lengths = give(&drawn, &fault, out, err);
     status
 }
@@ -224,20 +256,28 @@ pub extern "C" fn memcgrun_chart_into(
 pub extern "C" fn memcgrun_check_into(
     alloc: Global,
     script: &[u8],
+    as_linux: bool,
     out: &mut [u8],
     err: &mut [u8],
     lengths: &mut Lengths,
 ) -> u8
     ensures met_or_not { result ≤ 1 }
     // Where it is 0, the answers of the plain machine print exactly what the script expects. What the two texts say is only tested.
-    ensures met { result ≡ 0 → PrintsScript plain script.now (Some []) (Some (expected_of script.now)) }
+    ensures met { result ≡ 0 → PrintsScript (plain_as (placement_of as_linux)) script.now (Some []) (Some (expected_of script.now)) }
     ensures line { (bytes : List ℕ) × Got out.old out.new bytes × (lengths.new.out ≡ length bytes) }
     ensures fault { (text : List ℕ) × Got err.old err.new text × (lengths.new.err ≡ length text) }
 {
     let mut reader = script;
     let mut line = Vec::new(alloc);
     let mut fault = Vec::new(alloc);
-    let status = read_and_check(alloc, NAME, &mut reader, &mut line, &mut fault);
+    let status = read_and_check(
+        alloc,
+        placement_of(as_linux),
+        NAME,
+        &mut reader,
+        &mut line,
+        &mut fault,
+    );
     *lengths = give(&line, &fault, out, err);
     status
 }

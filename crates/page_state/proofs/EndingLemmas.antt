@@ -48,7 +48,7 @@ flies-alone pages flights n f d p label r b are is stands = some_inj (ap (option
 
 -- and then goes, where nothing maps it
 module _ (s : Inside) (is : IsJoined s) (sound : AreGenerations s.parts.held.lists) (settled now : Parts) (p : ℕ) (agree : PartsAgree now) (drops : DropsUnmapped settled now s.spaces.page_tables p) where
-  module _ (d : Direction) (label : Label) (n : ℕ) (end : End) (r b : ℕ) (stood : HasResidence s.parts.pages.pages p label (moving d r b n)) (settles : Settles s.parts settled d p n (page_after end label r b)) where
+  module _ (d : Direction) (label : Label) (n : ℕ) (end : End) (r b : ℕ) (stood : HasResidence s.parts.pages.pages p label (moving d r b n)) (settles : Settles s.parts settled s.config.placement d p n (page_after end label r b)) where
     stays : Stays s.parts now
     stays = stays-then s.parts settled now settles.stays drops.stays
 
@@ -62,8 +62,8 @@ module _ (s : Inside) (is : IsJoined s) (sound : AreGenerations s.parts.held.lis
           | inr other ↦ drops.pages.others q other
         ]
 
-    goes : GoesOn (entry_after d) s.parts.pages.pages s.parts.held.lists now.pages.pages now.held.lists
-    goes = goes-on-then (entry_after d) Youngest _ _ _ _ _ _ settles.held drops.held sound as_settled
+    goes : GoesOn (entry_after s.config.placement d) s.parts.pages.pages s.parts.held.lists now.pages.pages now.held.lists
+    goes = goes-on-then (entry_after s.config.placement d) Youngest _ _ _ _ _ _ settles.held drops.held sound as_settled
 
     placed : Changes s.parts.pages.pages now.pages.pages p (ended_as end s.spaces.page_tables p (labelled label (moving d r b n)) r b)
     placed = settled-then s.parts.pages.pages settled.pages.pages now.pages.pages s.spaces.page_tables p label (moving d r b n) end r b settles.settles.placed drops.pages
@@ -92,7 +92,7 @@ module _ (s : Inside) (is : IsJoined s) (sound : AreGenerations s.parts.held.lis
 -- whichever page is in transfer under the ticket, its transfer ends
 module _ (s : Inside) (is : IsJoined s) (sound : AreGenerations s.parts.held.lists) (settled now : Parts) (q n : ℕ) (d : Direction) (end : End)
     (alone : (p : ℕ) (label : Label) (r b : ℕ) → HasResidence s.parts.pages.pages p label (moving d r b n) → q ≡ p)
-    (settles : (label : Label) (r b : ℕ) → HasResidence s.parts.pages.pages q label (moving d r b n) → Settles s.parts settled d q n (page_after end label r b)) (agree : PartsAgree now) (drops : DropsUnmapped settled now s.spaces.page_tables q) where
+    (settles : (label : Label) (r b : ℕ) → HasResidence s.parts.pages.pages q label (moving d r b n) → Settles s.parts settled s.config.placement d q n (page_after end label r b)) (agree : PartsAgree now) (drops : DropsUnmapped settled now s.spaces.page_tables q) where
   pub joined-settled : (label : Label) (r b : ℕ) → HasResidence s.parts.pages.pages q label (moving d r b n) → IsJoined (record s { parts = now })
   joined-settled label r b stood = joined-ended s is sound settled now q agree drops d label n end r b stood (settles label r b stood)
 

@@ -173,14 +173,6 @@ ends-nobody s life nobody never mapped listed =
 pub ends-none : (s : StateOf) (life : Life) (h : ℕ) → AreMapped s.tables.pages s.tables.page_tables → ListsHeld s.tables.pages s.order.held → EndsTasks s s (is_ended_below s h 0) life
 ends-none s life h mapped listed = ends-nobody s life (is_ended_below s h 0) (λ u. let none : nat_lt u 0 ≡ false = grind (arith, nat_tests) in ap (λ b. b && is_candidate s.tables.tree s.tables.tasks h u) none) mapped listed
 
--- a candidate lives
-pub candidate-lives : (tree : List Node) (tasks : Tasks) (h t : ℕ) → is_candidate tree tasks h t ≡ true → lives tasks t ≡ true
-candidate-lives tree tasks h t is = by_slot (task_at tasks t) is
-  where
-    by_slot : (slot : Option Task) → there_and (is_live_under tree h) slot ≡ true → there_and (λ task. is_live_life task.life) slot ≡ true
-    by_slot None e = cc
-    by_slot (Some task) e = (and_parts (is_live_life task.life) _ e).0
-
 or_false : (b : Bool) → (b || false) ≡ b
 or_false true = refl
 or_false false = refl

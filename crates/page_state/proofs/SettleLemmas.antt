@@ -12,6 +12,7 @@ use Rattle.block_store.specs.Slots.{SlotsOf}
 use Rattle.page_counter.specs.Counts.{Counts, Charges, SameGroups, IsOut}
 use Rattle.pages.specs.declared.end.End.{End}
 use Rattle.pages.specs.declared.end.End.TheVariants.{InFrame, OnBlock}
+use Rattle.machine.specs.declared.config.Placement.{Placement}
 use Rattle.machine.specs.declared.record.Direction.{Direction}
 use Rattle.machine.specs.declared.record.Direction.TheVariants.{In, Out}
 use Rattle.pages.specs.PagesOf.{Label, labelled, HasResidence, byte_in, moving}
@@ -149,7 +150,7 @@ module _ (c : Counts) (pool : PoolOf) (slots : SlotsOf) (pages : Pages) (d : Dir
 -- ---- the parts
 
 -- a page is settled, and the lists with it
-pub record Lands (h h' : Parts) (p : ℕ) (label : Label) (f b n : ℕ) (d : Direction) (end : End) : Type 0 where
+pub record Lands (h h' : Parts) (p : ℕ) (label : Label) (f b n : ℕ) (placement : Placement) (d : Direction) (end : End) : Type 0 where
   pub stood : HasResidence h.pages.pages p label (moving d f b n)
   -- the bytes as the transfer ends
   pub filled : List (Option (List ℕ))
@@ -161,7 +162,7 @@ pub record Lands (h h' : Parts) (p : ℕ) (label : Label) (f b n : ℕ) (d : Dir
   pub spares : h'.pool.spares ≡ h.pool.spares + one_if (is_leaving_at (moving d f b n))
   pub most_spares : h'.pool.most_spares ≡ h.pool.most_spares
   pub blocks : h'.slots.blocks ≡ h.slots.blocks
-  pub held : JoinsAtEnd d end h.held h'.held label.group (kind_at label.content) p
+  pub held : JoinsAtEnd placement d end h.held h'.held label.group (kind_at label.content) p
   pub moving : LeavesQueue h.moving h'.moving p
 
 -- the page that is settled may be held again, in its group
@@ -176,7 +177,7 @@ settled : (label : Label) (end : End) (f b : ℕ) → there_and is_in_transfer (
 settled label InFrame f b = refl
 settled label OnBlock f b = (off-frame label b label.content).2
 
-module _ (h h' : Parts) (is : PartsAgree h) (p : ℕ) (label : Label) (f b n : ℕ) (d : Direction) where
+module _ (h h' : Parts) (is : PartsAgree h) (p : ℕ) (label : Label) (f b n : ℕ) (placement : Placement) (d : Direction) where
   abbrev from : Option Page
   from = Some (labelled label (moving d f b n))
 
@@ -184,22 +185,22 @@ module _ (h h' : Parts) (is : PartsAgree h) (p : ℕ) (label : Label) (f b n : �
   to end = page_after end label f b
 
   -- the lists of those held go on to have them
-  held-lands : (end : End) → Lands h h' p label f b n d end → GoesOn (entry_after d) h.pages.pages h.held.lists h'.pages.pages h'.held.lists × (h'.held.numbers ≡ h.held.numbers)
+  held-lands : (end : End) → Lands h h' p label f b n placement d end → GoesOn (entry_after placement d) h.pages.pages h.held.lists h'.pages.pages h'.held.lists × (h'.held.numbers ≡ h.held.numbers)
   held-lands InFrame lands = (
-    subst (λ (held : HeldLists). GoesOn (entry_after d) h.pages.pages h.held.lists h'.pages.pages held) (sym (ap (λ (held : HeldOf). held.lists) lands.held))
-        (goes-in h.pages.pages h.held.lists is.held p (entry_after d) h'.pages.pages from label f lands.stood (moving-is d f b n).3 lands.ended.placed),
+    subst (λ (held : HeldLists). GoesOn (entry_after placement d) h.pages.pages h.held.lists h'.pages.pages held) (sym (ap (λ (held : HeldOf). held.lists) lands.held))
+        (goes-in h.pages.pages h.held.lists is.held p (entry_after placement d) h'.pages.pages from label f lands.stood (moving-is d f b n).3 lands.ended.placed),
     ap (λ (held : HeldOf). held.numbers) lands.held,
   )
   held-lands OnBlock lands = (
-    subst (λ (held : HeldLists). GoesOn (entry_after d) h.pages.pages h.held.lists h'.pages.pages held) (sym (ap (λ (held : HeldOf). held.lists) lands.held))
-        (goes-at h.pages.pages h.held.lists is.held p (entry_after d) h'.pages.pages from (to OnBlock) lands.stood lands.ended.placed ((off-frame label b label.content).1 ∙ sym (moving-is d f b n).3)),
+    subst (λ (held : HeldLists). GoesOn (entry_after placement d) h.pages.pages h.held.lists h'.pages.pages held) (sym (ap (λ (held : HeldOf). held.lists) lands.held))
+        (goes-at h.pages.pages h.held.lists is.held p (entry_after placement d) h'.pages.pages from (to OnBlock) lands.stood lands.ended.placed ((off-frame label b label.content).1 ∙ sym (moving-is d f b n).3)),
     ap (λ (held : HeldOf). held.numbers) lands.held,
   )
 
-  stays-landed : (end : End) → Lands h h' p label f b n d end → Stays h h'
+  stays-landed : (end : End) → Lands h h' p label f b n placement d end → Stays h h'
   stays-landed end lands = record { groups = lands.groups; frames = lands.frames; most_spares = lands.most_spares; blocks = lands.blocks; numbers = lands.ended.numbers; page_groups = lands.ended.groups; page_frames = lands.ended.frames; held_numbers = (held-lands end lands).1; moving_room = lands.moving.room; files = lands.ended.files }
 
-  pub agree-lands : (end : End) → Lands h h' p label f b n d end → PartsAgree h'
+  pub agree-lands : (end : End) → Lands h h' p label f b n placement d end → PartsAgree h'
   agree-lands end lands =
       let held = held-lands end lands in
       let spares = lands.spares in
@@ -213,7 +214,7 @@ module _ (h h' : Parts) (is : PartsAgree h) (p : ℕ) (label : Label) (f b n : �
         changes = lands.ended.placed;
         kept = lands.kept;
         stays = stays-landed end lands;
-        generation = entry_after d;
+        generation = entry_after placement d;
         goes = held.0;
         apart = λ was now. true≢false (sym was ∙ (moving-is d f b n).3);
         moving = relists-out is_in_transfer h.moving.numbers h'.moving.numbers h.pages.pages p p from (to end) refl lands.stood (settled label end f b) is.moving lands.moving.counts lands.moving.fewer;
@@ -222,7 +223,7 @@ module _ (h h' : Parts) (is : PartsAgree h) (p : ℕ) (label : Label) (f b n : �
       })
       is
 
-  pub lands-settles : (end : End) → Lands h h' p label f b n d end → Settles h h' d p n (page_after end label f b)
+  pub lands-settles : (end : End) → Lands h h' p label f b n placement d end → Settles h h' placement d p n (page_after end label f b)
   lands-settles end lands =
       record {
         settles = record { placed = lands.ended.placed; unlisted = lands.ended.unlisted; others = λ q o other. lands.ended.others q o other ∙ lands.others q o other };

@@ -168,7 +168,7 @@ ended_as OnBlock tables p page frame block = on_block tables p page frame block
 pub record EndsTransfer (old new : StateOf) (direction : Direction) (p n : ℕ) (to : Option Page) : Type 0 where
   pub settles : SettlesPage (stored_of old) (stored_of new) p n to
   pub tables : new.tables ≡ record old.tables { pages = new.tables.pages }
-  pub held : KeepsLists (entry_after direction) old new
+  pub held : KeepsLists (entry_after old.tables.opening.placement direction) old new
   pub cursors : new.order.cursors ≡ old.order.cursors
 
 -- ---- tasks

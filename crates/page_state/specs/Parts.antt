@@ -2,6 +2,7 @@
 use Rattle.std.specs.Prelude.{◌≡◌, ◌≢◌, ℕ, ◌<◌, ◌++◌, ◌∷◌, [], Bool, true, false, Option, Some, None, slice_index, is_some}
 use Rattle.machine.specs.Slots.{Changes}
 use Rattle.machine.specs.Pages.{Content, Memory, OfFile, Page, page_at, home_block, is_frame_taken, is_swap_taken, charged, used_frames}
+use Rattle.machine.specs.declared.config.Placement.{Placement}
 use Rattle.machine.specs.Lists.{Generation, Youngest, entry_after, GoesOn, with_group}
 use Rattle.machine.specs.Counts.{over, no_limits}
 use Rattle.group_tree.specs.Lineages.{bare}
@@ -71,9 +72,9 @@ pub record BeginsOut (old new : Parts) (p : ℕ) (label : Label) (frame : ℕ) (
   pub stays : Stays old new
 
 -- the transfer in this direction of a page under a ticket has ended, and this is what became of the page
-pub record Settles (old new : Parts) (direction : Direction) (p n : ℕ) (to : Option Page) : Type 0 where
+pub record Settles (old new : Parts) (placement : Placement) (direction : Direction) (p n : ℕ) (to : Option Page) : Type 0 where
   pub settles : SettlesPage (stored_in old) (stored_in new) p n to
-  pub held : ListsGoOn (entry_after direction) old new
+  pub held : ListsGoOn (entry_after placement direction) old new
   pub stays : Stays old new
 
 -- a page is gone

@@ -1,6 +1,7 @@
 -- How a transfer's end changes the lists of pages.
 use Rattle.std.specs.Prelude.{◌≡◌, ℕ, ◌+◌, ◌==◌, not, length, if◌then◌else◌}
 use Rattle.std.specs.List.{filter}
+use Rattle.machine.specs.declared.config.Placement.{Placement}
 use Rattle.machine.specs.declared.record.Direction.{Direction}
 use Rattle.machine.specs.declared.record.Kind.{Kind}
 use Rattle.machine.specs.Lists.{entry_after}
@@ -18,6 +19,6 @@ pub record LeavesQueue (old new : QueueOf) (p : ℕ) : Type 0 where
   pub room : new.room ≡ old.room
 
 -- a page whose transfer in this direction ends in its frame is listed in its group
-abbrev pub JoinsAtEnd : Direction → End → HeldOf → HeldOf → ℕ → Kind → ℕ → Type 0
-JoinsAtEnd direction InFrame old new g kind p = new ≡ record old { lists = entered old.lists g kind p (entry_after direction) }
-JoinsAtEnd direction OnBlock old new g kind p = new ≡ old
+abbrev pub JoinsAtEnd : Placement → Direction → End → HeldOf → HeldOf → ℕ → Kind → ℕ → Type 0
+JoinsAtEnd placement direction InFrame old new g kind p = new ≡ record old { lists = entered old.lists g kind p (entry_after placement direction) }
+JoinsAtEnd placement direction OnBlock old new g kind p = new ≡ old

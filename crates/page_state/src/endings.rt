@@ -28,7 +28,9 @@ impl State {
     {
         self.parts.held.are_generations();
         let page = page_in_flight(&self.parts.pages, Direction::In, ticket.number());
-        let bytes = self.parts.settle_in(page, ticket, end);
+        let bytes = self
+            .parts
+            .settle_in(page, ticket, end, self.config.placement);
         drop_unmapped(&mut self.parts, &self.spaces, page);
         bytes
     }
@@ -43,7 +45,8 @@ impl State {
     {
         self.parts.held.are_generations();
         let page = page_in_flight(&self.parts.pages, Direction::Out, ticket.number());
-        self.parts.settle_out(page, ticket, end);
+        self.parts
+            .settle_out(page, ticket, end, self.config.placement);
         drop_unmapped(&mut self.parts, &self.spaces, page);
     }
 }

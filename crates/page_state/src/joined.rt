@@ -14,7 +14,7 @@ ghost use Rattle.page_state.specs.Mapped.{AreMapped};
 use crate::parts::Parts;
 use files::Files;
 use group_tree::{Flags, Tree};
-use machine::config::{Config, Watermarks};
+use machine::config::{Config, Placement, Watermarks};
 use memory_events::Events;
 use pages::Pages;
 use reclaim::Cursors;
@@ -131,6 +131,13 @@ impl State {
         ensures { result ≡ self.now.tables.opening.watermarks }
     {
         self.config.watermarks
+    }
+
+    /// Where pages enter the generation lists that are read in.
+    pub fn placement(&self) -> Placement
+        ensures { result ≡ self.now.tables.opening.placement }
+    {
+        self.config.placement
     }
 
     /// The trace's limit, in entries.

@@ -26,6 +26,7 @@ use files::Files;
 use frames::{Frame, Pool};
 use held_pages::HeldPages;
 use machine::bytes::PageBytes;
+use machine::config::Placement;
 use machine::id::{GroupId, PageId};
 use machine::record::{Direction, Kind};
 use page_counter::{Charge, Counters};
@@ -181,13 +182,19 @@ impl Parts {
     }
 
     /// The read-in of the page has ended so: it is in its frame, with the bytes that the ticket read, and
-    /// in the second youngest generation; or it is on its block, and its charge is taken back.
+    /// in the generation that the placement says; or it is on its block, and its charge is taken back.
     /// Hands out the ticket's bytes. Takes no memory.
-    pub fn settle_in(&mut self, page: PageId, ticket: InTicket, end: End) -> PageBytes
+    pub fn settle_in(
+        &mut self,
+        page: PageId,
+        ticket: InTicket,
+        end: End,
+        placement: Placement,
+    ) -> PageBytes
         requires agree { PartsAgree self.old }
         requires stands { (label : Label) × (f b : ℕ) × HasResidence self.old.pages.pages page.0 label (residence.Coming f b ticket.number) }
         ensures agree { PartsAgree self.new }
-        ensures settles { (label : Label) (f b : ℕ) → HasResidence self.old.pages.pages page.0 label (residence.Coming f b ticket.number) → Settles self.old self.new In page.0 ticket.number (page_after end label f b) }
+        ensures settles { (label : Label) (f b : ℕ) → HasResidence self.old.pages.pages page.0 label (residence.Coming f b ticket.number) → Settles self.old self.new placement In page.0 ticket.number (page_after end label f b) }
         ensures arrives { end ≡ End.InFrame → (o : ℕ) → byte_in self.new.pages.bytes page.0 o ≡ slice_index ticket.bytes o }
         ensures bytes { result ≡ ticket.bytes }
     {
@@ -210,6 +217,7 @@ impl Parts {
             kind,
             page,
             Direction::In,
+            placement,
             end,
         );
         PageBytes::new(buffer)
@@ -217,11 +225,11 @@ impl Parts {
 
     /// The write-out of the page has ended so: it is on its block, and its charge is taken back; or it is
     /// in its frame, as it was, and in the youngest generation. Takes no memory.
-    pub fn settle_out(&mut self, page: PageId, ticket: OutTicket, end: End)
+    pub fn settle_out(&mut self, page: PageId, ticket: OutTicket, end: End, placement: Placement)
         requires agree { PartsAgree self.old }
         requires stands { (label : Label) × (f b : ℕ) × HasResidence self.old.pages.pages page.0 label (residence.Going f b ticket.number) }
         ensures agree { PartsAgree self.new }
-        ensures settles { (label : Label) (f b : ℕ) → HasResidence self.old.pages.pages page.0 label (residence.Going f b ticket.number) → Settles self.old self.new Out page.0 ticket.number (page_after end label f b) }
+        ensures settles { (label : Label) (f b : ℕ) → HasResidence self.old.pages.pages page.0 label (residence.Going f b ticket.number) → Settles self.old self.new placement Out page.0 ticket.number (page_after end label f b) }
         ensures stays { end ≡ End.InFrame → (o : ℕ) → byte_in self.new.pages.bytes page.0 o ≡ byte_in self.old.pages.bytes page.0 o }
     {
         self.pages.are_numbered();
@@ -243,6 +251,7 @@ impl Parts {
             kind,
             page,
             Direction::Out,
+            placement,
             end,
         );
     }

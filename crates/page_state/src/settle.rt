@@ -16,6 +16,7 @@ use crate::room::give_room;
 use block_store::Slots;
 use frames::Pool;
 use held_pages::HeldPages;
+use machine::config::Placement;
 use machine::id::{GroupId, PageId};
 use machine::record::{Direction, Kind};
 use page_counter::Counters;
@@ -81,17 +82,18 @@ pub fn relist(
     kind: Kind,
     page: PageId,
     direction: Direction,
+    placement: Placement,
     end: End,
 )
     requires group { group.0 < length held.old.lists.groups }
     requires number { page.0 < held.old.numbers }
     requires unlisted { is_listed_in held.old.lists.groups page.0 ≡ false }
-    ensures held { JoinsAtEnd direction end held.old held.new group.0 kind page.0 }
+    ensures held { JoinsAtEnd placement direction end held.old held.new group.0 kind page.0 }
     ensures moving { LeavesQueue moving.old moving.new page.0 }
 {
     moving.remove(page);
     match end {
-        End::InFrame => held.putback(group, kind, page, direction),
+        End::InFrame => held.putback(group, kind, page, direction, placement),
         End::OnBlock => {}
     }
 }

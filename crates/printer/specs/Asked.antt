@@ -1,5 +1,7 @@
 -- What options ask for.
 use Rattle.std.specs.Prelude.{◌||◌, Bool, false}
+use Rattle.machine.specs.declared.config.Placement.{Placement}
+use Rattle.machine.specs.declared.config.Placement.TheVariants.{Own}
 use Rattle.printer.specs.declared.options.Options.{Options}
 
 -- something stands before the lines of answers: the number of a line of the script, or that and its words
@@ -20,4 +22,8 @@ places_faults options = options.explain || options.strict
 
 -- nothing is asked for beside the answers
 abbrev pub plain : Options
-plain = record { audit = false; explain = false; labels = false; lines = false; progress = false; quiet = false; strict = false; summary = false; turns = 1000 }
+plain = record { audit = false; explain = false; labels = false; lines = false; placement = Own; progress = false; quiet = false; strict = false; summary = false; turns = 1000 }
+
+-- the same, with this placement
+abbrev pub plain_as : Placement → Options
+plain_as placement = record plain { placement = placement }

@@ -3,6 +3,7 @@
 ghost use Rattle.std.specs.Prelude.{◌≡◌};
 ghost use Rattle.printer.specs.Asked.{plain};
 
+use machine::config::Placement;
 use machine::limit::USUAL_TURNS;
 
 /// How a script is run, how its answers are shown, and what is said beside them; by default they are shown as they are and
@@ -18,6 +19,8 @@ pub struct Options {
     pub labels: bool,
     /// The number of its line of the script stands before each line of an answer.
     pub lines: bool,
+    /// Where pages enter the generation lists that are read in.
+    pub placement: Placement,
     /// How many lines are done of how many, on a terminal, while the run goes on.
     pub progress: bool,
     /// Bytes that tasks read are not printed.
@@ -32,7 +35,7 @@ pub struct Options {
 }
 
 impl Default for Options {
-    /// Nothing is asked for, and a line takes 1,000 turns at most.
+    /// Nothing is asked for, pages enter the lists by our own rule, and a line takes 1,000 turns at most.
     fn default() -> Options
         ensures { result ≡ plain }
     {
@@ -41,6 +44,7 @@ impl Default for Options {
             explain: false,
             labels: false,
             lines: false,
+            placement: Placement::Own,
             progress: false,
             quiet: false,
             strict: false,

@@ -3,6 +3,7 @@ use Rattle.std.specs.Prelude.{ℕ, Bool, true, false, ◌&&◌, ◌||◌, List, 
 use Rattle.std.specs.List.{take_while}
 use Rattle.std.specs.Str.{is_utf8}
 use Rattle.machine.specs.declared.config.Config.{Config}
+use Rattle.machine.specs.declared.config.Placement.TheVariants.{Own}
 use Rattle.scripts.specs.declared.fault.Cause.{Cause}
 use Rattle.scripts.specs.declared.meaning.Item.{Item}
 use Rattle.scripts.specs.declared.meaning.Item.TheVariants as item
@@ -20,7 +21,7 @@ use Rattle.scripts.specs.Faults.{fault}
 
 -- what holds where the header says nothing
 abbrev pub default_config : Config
-default_config = record { frames = 64; swap = 0; files = []; watermarks = record { low = 0; high = 0 }; trace = 65536; turns = 1000; recursive = false }
+default_config = record { frames = 64; swap = 0; files = []; watermarks = record { low = 0; high = 0 }; trace = 65536; turns = 1000; recursive = false; placement = Own }
 
 abbrev pub config_after : Config → Item → Config
 config_after c (item.Frames n) = record c { frames = n }

@@ -13,7 +13,7 @@ use crate::lines::{as_text, first_line};
 use crate::meaning::Item;
 use crate::mode::Mode;
 use crate::words::{Token, words_of};
-use machine::config::{Config, FileList, Watermarks};
+use machine::config::{Config, FileList, Placement, Watermarks};
 use machine::limit::USUAL_TURNS;
 use std::alloc::{AllocError, Global};
 
@@ -32,6 +32,7 @@ pub fn default_config(alloc: Global) -> Config
         trace: 65_536,
         turns: USUAL_TURNS,
         recursive: false,
+        placement: Placement::Own,
     }
 }
 

@@ -7,7 +7,7 @@ use crate::step::Step;
 use crate::tour::{Plan, end};
 use block_store::MemDevice;
 use book::{Book, Pass};
-use machine::config::{Config, File, FileList, Watermarks};
+use machine::config::{Config, File, FileList, Placement, Watermarks};
 use machine::refusal::Refusal;
 use machine::text::Text;
 use std::alloc::{AllocError, Global};
@@ -74,6 +74,7 @@ pub fn config(alloc: Global) -> Result<Config, AllocError> {
         trace: ALL_ROOM,
         turns: 1000,
         recursive: false,
+        placement: Placement::Own,
     })
 }
 

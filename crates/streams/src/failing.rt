@@ -2,7 +2,7 @@
 
 use std::io;
 use std::io::{Error, ErrorKind, Read, Write};
-use subcommands::{SCRIPT_BYTES, read_and_check, schedule};
+use subcommands::{Placement, SCRIPT_BYTES, read_and_check, schedule};
 
 const OVER_LIMIT: &str = "\
 group /a
@@ -225,7 +225,14 @@ fn a_check_whose_line_cannot_be_written_ends_with_status_1(rt: HostRuntime) {
         let mut err = Vec::new(alloc);
         let mut script = "group /a\n".as_bytes();
         let fits = room == line.len();
-        let status = read_and_check(alloc, "script", &mut script, &mut out, &mut err);
+        let status = read_and_check(
+            alloc,
+            Placement::Own,
+            "script",
+            &mut script,
+            &mut out,
+            &mut err,
+        );
         assert_eq!(rt; status, if fits { 0 } else { 1 }, "room for {room}");
         assert_eq!(rt; is_one_line(&err), !fits, "room for {room}");
         assert_eq!(rt;
@@ -238,7 +245,14 @@ fn a_check_whose_line_cannot_be_written_ends_with_status_1(rt: HostRuntime) {
     let mut out = Closed;
     let mut err = Vec::new(alloc);
     let mut script = "group /a\n".as_bytes();
-    let status = read_and_check(alloc, "script", &mut script, &mut out, &mut err);
+    let status = read_and_check(
+        alloc,
+        Placement::Own,
+        "script",
+        &mut script,
+        &mut out,
+        &mut err,
+    );
     assert_eq!(rt; status, 1);
     assert!(rt; err.is_empty());
     let Closed = out;

@@ -18,9 +18,9 @@ use Rattle.printer.specs.Prints.{PrintsRun, PrintsStart, EndsRun}
 abbrev pub disk_of : List Item → Disk
 disk_of is = new_disk (blocks_of (config_of is)) (faults_of Read is) (faults_of Write is)
 
--- what the header asks for, with as many turns of a line as the options say
+-- what the header asks for, with as many turns of a line as the options say, and their placement. (Excludes a placement that is ignored.)
 abbrev pub configured : Options → List Item → Config
-configured options is = record (config_of is) { turns = options.turns }
+configured options is = record (config_of is) { turns = options.turns; placement = options.placement }
 
 -- no line of the script is faulty, and a writer got what all of it prints, and what the options ask for behind that
 pub record PrintsScript (options : Options) (script : List ℕ) (old new : Option (List ℕ)) : Type 0 where

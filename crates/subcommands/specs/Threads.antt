@@ -4,6 +4,7 @@ use Rattle.std.specs.List.{sum_by}
 use Rattle.std.specs.Io.KnownBytes.{Appends}
 use Rattle.std.specs.Str.Lines.{lines}
 use Rattle.machine.specs.declared.config.Config.{Config}
+use Rattle.machine.specs.declared.config.Placement.{Placement}
 use Rattle.machine.specs.declared.config.Watermarks.{Watermarks}
 use Rattle.machine.specs.declared.command.Actor.{Actor}
 use Rattle.machine.specs.declared.command.Actor.TheVariants as actor
@@ -107,6 +108,6 @@ pub record PrintsThreads (config : Config) (setup : List (Actor × Command)) (wo
   pub prints : Appends old new (texts run.set_up ++ texts run.answers ++ verdict_line verdict)
 
 -- no line of the script is faulty on threads, and a writer got what a run of it prints
-pub record PrintsScriptOnThreads (script : List ℕ) (verdict : Verdict) (old new : Option (List ℕ)) : Type 0 where
+pub record PrintsScriptOnThreads (placement : Placement) (script : List ℕ) (verdict : Verdict) (old new : Option (List ℕ)) : Type 0 where
   pub faultless : IsFaultless Run (lines script)
-  pub run : PrintsThreads (config_of (items_of (lines script))) (setup_of (items_of (lines script))) (work_of (worked (items_of (lines script)))) verdict old new
+  pub run : PrintsThreads (record (config_of (items_of (lines script))) { placement = placement }) (setup_of (items_of (lines script))) (work_of (worked (items_of (lines script)))) verdict old new

@@ -137,6 +137,7 @@ pub fn chart<O: Write>(
     match scripts::read(alloc, script, Mode::Schedule) {
         Ok(mut script) => {
             script.config.turns = options.turns;
+            script.config.placement = options.placement;
             chart_steps(alloc, kind, title, script, out)
         }
         Err(fault) => Err(faulty(alloc, options, title, script, Mode::Schedule, fault)),

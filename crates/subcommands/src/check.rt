@@ -2,13 +2,14 @@
 
 ghost use Rattle.std.specs.Prelude.{◌≡◌, ◌≤◌, [], false, IfSome, IfOk, IfErr};
 ghost use Rattle.expectations.specs.Expected.{expected_of};
-ghost use Rattle.printer.specs.Asked.{marks_lines, plain};
+ghost use Rattle.printer.specs.Asked.{marks_lines, plain_as};
 ghost use Rattle.subcommands.specs.Scripts.{PrintsScript};
 ghost use Rattle.subcommands.specs.Told.{Explains};
 
 use crate::fault::Fault;
 use crate::{FAILED, read_script, run_script, status_of};
 use expectations::{Difference, compare};
+use machine::config::Placement;
 use printer::{Options, write_bytes};
 use scripts::ScriptFault;
 use std::alloc::{AllocError, Global};
@@ -56,16 +57,20 @@ fn numbers_of(alloc: Global, numbered: &[u8]) -> Result<Vec<usize>, AllocError> 
 }
 
 /// A script is run twice, since its output says of no line where it comes of, or of each.
-fn answers_of(alloc: Global, script: &[u8]) -> Result<Answers, Fault>
-    ensures whole { IfOk result (λ answers. PrintsScript plain script.now (Some []) (Some answers.output.items)) }
-    ensures why { IfErr result (Explains plain [] script.now) }
+fn answers_of(alloc: Global, placement: Placement, script: &[u8]) -> Result<Answers, Fault>
+    ensures whole { IfOk result (λ answers. PrintsScript (plain_as placement) script.now (Some []) (Some answers.output.items)) }
+    ensures why { IfErr result (Explains (plain_as placement) [] script.now) }
 {
-    let output = output_of(alloc, Options::default(), script)?;
     let options = Options {
-        lines: true,
+        placement,
         ..Options::default()
     };
-    let numbered = output_of(alloc, options, script)?;
+    let output = output_of(alloc, options, script)?;
+    let with_lines = Options {
+        lines: true,
+        ..options
+    };
+    let numbered = output_of(alloc, with_lines, script)?;
     match numbers_of(alloc, &numbered) {
         Ok(numbers) => Ok(Answers { output, numbers }),
         Err(AllocError) => Err(Fault::Script(ScriptFault::Memory)),
@@ -94,15 +99,16 @@ fn tell<O: Write>(
 /// of it: behind the file's name how many answers there were, or the first difference.
 pub fn check_script<O: Write>(
     alloc: Global,
+    placement: Placement,
     name: &str,
     script: &[u8],
     out: &mut O,
 ) -> Result<Checked, Fault>
     // It is met only where the answers of the plain machine print exactly what the script expects.
-    ensures met { IfOk result (λ checked. checked ≡ Checked.Met → PrintsScript plain script.now (Some []) (Some (expected_of script.now))) }
-    ensures why { IfErr result (Explains plain [] script.now) }
+    ensures met { IfOk result (λ checked. checked ≡ Checked.Met → PrintsScript (plain_as placement) script.now (Some []) (Some (expected_of script.now))) }
+    ensures why { IfErr result (Explains (plain_as placement) [] script.now) }
 {
-    let Answers { output, numbers } = answers_of(alloc, script)?;
+    let Answers { output, numbers } = answers_of(alloc, placement, script)?;
     let compared = compare(script, &output, &numbers);
     match tell(alloc, name, &compared, numbers.len(), out) {
         Ok(()) => Ok(match compared {
@@ -122,16 +128,17 @@ pub fn check_script<O: Write>(
 /// that say why, the file's name before them.
 pub fn read_and_check<R: Read, O: Write, E: Write>(
     alloc: Global,
+    placement: Placement,
     name: &str,
     script: &mut R,
     out: &mut O,
     err: &mut E,
 ) -> u8
     ensures success_or_failure { result ≤ 1 }
-    ensures met { result ≡ 0 → IfSome (R.remaining script.old) (λ all. PrintsScript plain all (Some []) (Some (expected_of all))) }
+    ensures met { result ≡ 0 → IfSome (R.remaining script.old) (λ all. PrintsScript (plain_as placement) all (Some []) (Some (expected_of all))) }
 {
     let checked = match read_script(alloc, script) {
-        Ok(bytes) => check_script(alloc, name, &bytes, out),
+        Ok(bytes) => check_script(alloc, placement, name, &bytes, out),
         Err(fault) => Err(fault),
     };
     match checked {

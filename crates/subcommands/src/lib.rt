@@ -27,6 +27,7 @@ use block_store::{BlockDevice, MemDevice};
 pub use charting::{Drawing, chart};
 pub use check::{Checked, check_script, read_and_check};
 use device::new_device;
+pub use driver::Placement;
 use driver::{Config, Stop};
 pub use fault::{Fault, Wanted};
 pub use printer::Options;
@@ -273,6 +274,7 @@ pub fn run_script<O: Write, E: Write>(
         Ok(mut read) => {
             hide_reading(options, err);
             read.config.turns = options.turns;
+            read.config.placement = options.placement;
             run_steps(alloc, options, file, script, read, out, err)
         }
         Err(fault) => {

@@ -4,6 +4,7 @@ ghost use Rattle.std.specs.Prelude.{◌≡◌, ◌⊎◌, ℕ, ◌<◌, ◌≤�
 ghost use Rattle.std.specs.Io.KnownBytes.{Appends, Keeps};
 ghost use Rattle.std.specs.List.Sorted.{IsStrictlyIncreasing};
 ghost use Rattle.std.specs.Str.Lines.{lines};
+ghost use Rattle.machine.specs.declared.config.Placement.TheVariants.{Own};
 ghost use Rattle.machine.specs.State.{opening_of, is_config, blocks_of};
 ghost use Rattle.turns.specs.Tickets.{blocks_in};
 ghost use Rattle.scripts.specs.declared.fault.Cause.{Cause};
@@ -411,7 +412,7 @@ pub fn run_script_on_threads<R: Threads + Wait + Sync, O: Write>(
     script: &[u8],
     out: &mut O,
 ) -> Result<Verdict, Fault>
-    ensures whole { IfOk result (λ verdict. PrintsScriptOnThreads script.now verdict (O.contents out.old) (O.contents out.new)) }
+    ensures whole { IfOk result (λ verdict. PrintsScriptOnThreads options.placement script.now verdict (O.contents out.old) (O.contents out.new)) }
     ensures faulty { (n : ℕ) (cause : Cause) → IsFirstFault Run (lines script.now) n cause → IsErr result × (O.contents out.new ≡ O.contents out.old) }
     ensures why { IfErr result (ExplainsIn Run options file.now script.now) }
     // It is the script's only where nothing was run.
@@ -420,7 +421,10 @@ pub fn run_script_on_threads<R: Threads + Wait + Sync, O: Write>(
     one_answer();
     each_actor_has_its_row();
     match scripts::read(alloc, script, Mode::Run) {
-        Ok(script) => run_new(rt, alloc, script, out),
+        Ok(mut script) => {
+            script.config.placement = options.placement;
+            run_new(rt, alloc, script, out)
+        }
         Err(fault) => Err(faulty(alloc, options, file, script, Mode::Run, fault)),
     }
 }
@@ -445,7 +449,7 @@ fn read_and_run<R: Threads + Wait + Sync, I: Read, O: Write>(
     script: &mut I,
     out: &mut O,
 ) -> Result<Verdict, Fault>
-    ensures whole { IfOk result (λ verdict. IfSome (I.remaining script.old) (λ all. PrintsScriptOnThreads all verdict (O.contents out.old) (O.contents out.new))) }
+    ensures whole { IfOk result (λ verdict. IfSome (I.remaining script.old) (λ all. PrintsScriptOnThreads Own all verdict (O.contents out.old) (O.contents out.new))) }
     ensures faulty { IfSome (I.remaining script.old) (λ all. (n : ℕ) (cause : Cause) → IsFirstFault Run (lines all) n cause → IsErr result × Keeps (O.contents out.old) (O.contents out.new)) }
     ensures why { IfErr result (λ why. IfSome (I.remaining script.old) (λ all. IsUnread all why ⊎ ExplainsIn Run plain [] all why)) }
 {
@@ -472,7 +476,7 @@ pub fn run<R: Threads + Wait + Sync, I: Read, O: Write, E: Write>(
 ) -> u8
     ensures success_or_failure { result ≤ 1 }
     // Where it is 0, `out` got what a run of the script prints, `audit ok` behind it, and `err` nothing.
-    ensures sound { result ≡ 0 → IfSome (I.remaining script.old) (λ all. PrintsScriptOnThreads all Verdict.Fine (O.contents out.old) (O.contents out.new)) }
+    ensures sound { result ≡ 0 → IfSome (I.remaining script.old) (λ all. PrintsScriptOnThreads Own all Verdict.Fine (O.contents out.old) (O.contents out.new)) }
     ensures silent { result ≡ 0 → Keeps (E.contents err.old) (E.contents err.new) }
     // Of a script with a faulty line it is 1, and `out` got nothing.
     ensures faulty { IfSome (I.remaining script.old) (λ all. (n : ℕ) (cause : Cause) → IsFirstFault Run (lines all) n cause → (result ≡ 1) × Keeps (O.contents out.old) (O.contents out.new)) }

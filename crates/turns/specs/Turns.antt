@@ -1,10 +1,14 @@
 -- The table of turns: what a command in a state asks of the book or of the device, and what it makes of the answer.
-use Rattle.std.specs.Prelude.{◌≡◌, ℕ, zero, suc, ◌-◌, nat_le, if◌then◌else◌, List, [], ◌∷◌, map, Result, Ok, Err, Option, Some, None}
+use Rattle.std.specs.Prelude.{◌≡◌, ℕ, zero, suc, ◌-◌, ◌&&◌, not, nat_le, Bool, true, false, if◌then◌else◌, List, [], ◌∷◌, map, Result, Ok, Err, Option, Some, None}
 use Rattle.machine.specs.declared.amount.Amount.{Amount}
 use Rattle.machine.specs.declared.amount.Amount.TheVariants as amount
+use Rattle.machine.specs.declared.config.Placement.{Placement}
+use Rattle.machine.specs.declared.config.Placement.TheVariants.{Own, Linux}
 use Rattle.machine.specs.declared.config.Watermarks.{Watermarks}
 use Rattle.machine.specs.declared.event.Op.{Op}
 use Rattle.machine.specs.declared.event.Op.TheVariants.{Read, Write}
+use Rattle.machine.specs.declared.event.Place.{Place}
+use Rattle.machine.specs.declared.event.Place.TheVariants as place
 use Rattle.machine.specs.declared.event.Cause.{Cause}
 use Rattle.machine.specs.declared.event.Cause.TheVariants as cause
 use Rattle.machine.specs.declared.event.Setting.TheVariants as setting
@@ -210,6 +214,10 @@ Closed resumed (reply.StrangeIn ticket) transition = transition ≡ ends_refused
 Closed resumed (reply.StrangeOut ticket) transition = transition ≡ ends_refused Stranger
 Closed resumed said transition = ⊥
 
+-- the access whose page was read in for it
+abbrev pub arrived : Access → Access
+arrived access = record access { fetched = true }
+
 -- what a command makes of the reply, by what it remembers. (Excludes a command that ends at a kill, tries again without room, takes a max back, or ends a transfer that the
 -- device was not asked for.)
 abbrev pub Told : Pending → Reply → Transition → Type 0
@@ -222,10 +230,26 @@ Told pending.Balance said transition = Balanced said transition
 Told pending.Make said transition = Made said transition
 Told pending.OfTask said transition = TaskDid said transition
 Told pending.Show said transition = WasShown said transition
-Told (pending.Arrive access) said transition = Closed (Goes (stage.Try access)) said transition
+Told (pending.Arrive access) said transition = Closed (Goes (stage.Try (arrived access))) said transition
 Told pending.FetchFail said transition = Closed (ends_with word.Io) said transition
 Told (pending.Leave on) said transition = Closed (Goes (resumes_at on)) said transition
 Told pending.LeaveFail said transition = Closed (ends_with word.Io) said transition
+
+-- ---- which hits leave a mark
+
+abbrev pub is_of_file : Place → Bool
+is_of_file (place.Virtual v offset) = false
+is_of_file (place.File file q offset) = true
+
+-- an access marks the page that it hits; but as Linux has it, a page of a file that was read in for it gets no mark by it. (Excludes a page of a file that counts as used
+-- because it came.)
+abbrev pub marks_by : Placement → Access → Bool
+marks_by Own access = true
+marks_by Linux access = not (access.fetched && is_of_file access.place)
+
+abbrev pub marks_hit : Placement → Pending → Bool
+marks_hit placement (pending.Try access) = marks_by placement access
+marks_hit placement remembers = true
 
 -- memory for a control file's text was refused, and everything else was there
 pub record WantsText (remembers : Pending) (said : Reply) : Type 0 where
@@ -332,7 +356,7 @@ writes_file g text file.Reclaim = with_amount (amount_of text) (reclaims g)
 
 -- a command of a task; one that is none of a task's is Invalid
 abbrev pub task_judged : ℕ → Command → Judged
-task_judged t (command.Access place op) = Ok (stage.Try (record { task = record { 0 = t }; place = place; op = op }))
+task_judged t (command.Access place op) = Ok (stage.Try (record { task = record { 0 = t }; place = place; op = op; fetched = false }))
 task_judged t (command.Fork child) = Ok (stage.Fork (record { 0 = t }) (record { 0 = child }))
 task_judged t (command.Free page) = Ok (stage.Free (record { 0 = t }) page)
 task_judged t command.Exit = Ok (stage.Exit (record { 0 = t }))

@@ -4,7 +4,7 @@
 
 ghost use Rattle.std.specs.Prelude.{◌≡◌, ℕ, true, false, IfOk, OnErr};
 ghost use Rattle.book.specs.Replies.{IsAccessReply, IsReliefReply, IsReclaimReply, IsOkReply, IsTaskReply, IsShownReply, IsInReply, IsOutReply};
-ghost use Rattle.turns.specs.Turns.{access_event, wants_pages, wants_balance, wants_watch, wants, ends_with, ends_refused, byte_answer, resumes_at, Tried, MadeRoom, MaxSet, Lowered, Reclaimed, Balanced, Made, TaskDid, WasShown, Closed, Told, WantsText, Awaits, AwaitsAll};
+ghost use Rattle.turns.specs.Turns.{access_event, wants_pages, wants_balance, wants_watch, wants, ends_with, ends_refused, byte_answer, resumes_at, arrived, Tried, MadeRoom, MaxSet, Lowered, Reclaimed, Balanced, Made, TaskDid, WasShown, Closed, Told, WantsText, Awaits, AwaitsAll};
 ghost use Rattle.turns.specs.Tickets.{holds, holds_want, holds_after, gives_ticket, OwnReply, OwnStage, OwnWant, OwnTransition, IsHanded, IsSpendableReply};
 
 use crate::turn::{Access, Kill, Pending, Resume, Stage, Transition, Want};
@@ -428,12 +428,15 @@ fn strange_out(ticket: OutTicket) -> Transition
 fn arrived(access: Access, reply: Reply) -> Transition
     requires comes { IsInReply reply }
     requires handed { IsHanded reply }
-    ensures told { Closed (Transition.Goes (Stage.Try access)) reply result }
+    ensures told { Closed (Transition.Goes (Stage.Try (arrived access))) reply result }
     ensures holds { holds_after result ≡ gives_ticket reply }
     ensures own { (worker blocks : ℕ) → OwnTransition worker blocks result }
 {
     match reply {
-        Reply::Ok => Transition::Goes(Stage::Try(access)),
+        Reply::Ok => Transition::Goes(Stage::Try(Access {
+            fetched: true,
+            ..access
+        })),
         Reply::StrangeIn(ticket) => strange_in(ticket),
         other => never(other),
     }

@@ -55,6 +55,7 @@ fn judge_task(task: u32, command: &Command) -> Result<Stage, Refusal>
             task: TaskId(task),
             place: *place,
             op: *op,
+            fetched: false,
         })),
         Command::Fork { child } => Ok(Stage::Fork {
             task: TaskId(task),

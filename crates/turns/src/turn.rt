@@ -1,11 +1,12 @@
 //! A command under way, row by row of the table of turns.
 
 ghost use Rattle.std.specs.Prelude.{◌≡◌};
-ghost use Rattle.turns.specs.Turns.{kill_answer};
+ghost use Rattle.turns.specs.Turns.{is_of_file, kill_answer, marks_by, marks_hit};
 
 use book::{Event, InTicket, OutTicket};
 use machine::amount::Amount;
 use machine::command::Answer;
+use machine::config::Placement;
 use machine::event::{Cause, Op, Place, Query};
 use machine::id::{GroupId, TaskId};
 use machine::record::{Guard, OomGroup};
@@ -17,6 +18,30 @@ pub struct Access {
     pub task: TaskId,
     pub place: Place,
     pub op: Op,
+    /// Its page was read in for it.
+    pub fetched: bool,
+}
+
+impl Access {
+    /// Whether the page is marked that it hits (kernel: the accessed bit of a page table; a page of a file that is
+    /// read in for a `read` or a `write` has none).
+    pub fn marks(self, placement: Placement) -> bool
+        ensures { result ≡ marks_by placement self }
+    {
+        match placement {
+            Placement::Own => true,
+            Placement::Linux => !(self.fetched && self.is_of_file()),
+        }
+    }
+
+    fn is_of_file(self) -> bool
+        ensures { result ≡ is_of_file self.place }
+    {
+        match self.place {
+            Place::Virtual { page: _, offset: _ } => false,
+            Place::File { .. } => true,
+        }
+    }
 }
 
 /// A state that holds no ticket: what a command goes on with once a transfer has ended, its own or
@@ -125,6 +150,22 @@ pub enum Pending {
     FetchFail,
     Leave(Resume),
     LeaveFail,
+}
+
+impl Pending {
+    /// Whether a page is marked that the event hits.
+    pub fn marks_hit(self, placement: Placement) -> bool
+        ensures { result ≡ marks_hit placement self }
+    {
+        match self {
+            Pending::Try(access) => access.marks(placement),
+            Pending::MakeRoom(_, _) | Pending::SetMax(_) | Pending::Lower(_) => true,
+            Pending::Reclaim { group: _, left: _ } | Pending::Balance => true,
+            Pending::Make | Pending::OfTask | Pending::Show => true,
+            Pending::Arrive(_) | Pending::FetchFail => true,
+            Pending::Leave(_) | Pending::LeaveFail => true,
+        }
+    }
 }
 
 /// What an actor wants in one turn.

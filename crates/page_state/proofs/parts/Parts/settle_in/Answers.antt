@@ -32,7 +32,7 @@ ends c label f b stood =
     subst (λ (t : PagesOf). Ends t c.end_transfer-kind.new.pages c.args.page.0 label f b c.args.ticket.number c.args.end) c.fill.ensures.others (c.end_transfer-kind.ensures.ends In label f b (filled_there c label f b stood))
 
 lands : (c : goal.After-new) (label : Label) (f b : ℕ) → HasResidence c.args.self.now.pages.pages c.args.page.0 label (Coming f b c.args.ticket.number)
-    → Lands c.args.self.now (record { pages = c.end_transfer-kind.new.pages; pool = c.end_transfer-kind.new.pool; slots = c.end_transfer-kind.new.slots; counters = c.end_transfer-kind.new.counters; held = c.relist.new.held; moving = c.relist.new.moving }) c.args.page.0 label f b c.args.ticket.number In c.args.end
+    → Lands c.args.self.now (record { pages = c.end_transfer-kind.new.pages; pool = c.end_transfer-kind.new.pool; slots = c.end_transfer-kind.new.slots; counters = c.end_transfer-kind.new.counters; held = c.relist.new.held; moving = c.relist.new.moving }) c.args.page.0 label f b c.args.ticket.number c.args.placement In c.args.end
 lands c label f b stood =
     let settled = c.end_transfer-kind.ensures in
     let own = settled.label In label f b (filled_there c label f b stood) in
@@ -48,19 +48,19 @@ lands c label f b stood =
       most_spares = settled.most_spares;
       spares = omega (arith, spares);
       blocks = settled.blocks;
-      held = subst (λ (kind : Kind). JoinsAtEnd In c.args.end c.args.self.now.held c.relist.new.held label.group kind c.args.page.0) own.1
-          (subst (λ (x : ℕ). JoinsAtEnd In c.args.end c.args.self.now.held c.relist.new.held x c.end_transfer-kind.result.1 c.args.page.0) own.0 c.relist.ensures.held);
+      held = subst (λ (kind : Kind). JoinsAtEnd c.args.placement In c.args.end c.args.self.now.held c.relist.new.held label.group kind c.args.page.0) own.1
+          (subst (λ (x : ℕ). JoinsAtEnd c.args.placement In c.args.end c.args.self.now.held c.relist.new.held x c.end_transfer-kind.result.1 c.args.page.0) own.0 c.relist.ensures.held);
       moving = c.relist.ensures.moving;
     }
 
 pub returns-clause-agree : goal.returns-clause-agree
 returns-clause-agree c =
     let w = c.requires.stands in
-    agree-lands c.args.self.now _ c.requires.agree c.args.page.0 w.0 w.1 w.2 c.args.ticket.number In c.args.end (lands c w.0 w.1 w.2 w.3)
+    agree-lands c.args.self.now _ c.requires.agree c.args.page.0 w.0 w.1 w.2 c.args.ticket.number c.args.placement In c.args.end (lands c w.0 w.1 w.2 w.3)
 
 pub returns-clause-settles : goal.returns-clause-settles
 returns-clause-settles c =
-    (λ label f b stood. lands-settles c.args.self.now _ c.requires.agree c.args.page.0 label f b c.args.ticket.number In c.args.end (lands c label f b stood))
+    (λ label f b stood. lands-settles c.args.self.now _ c.requires.agree c.args.page.0 label f b c.args.ticket.number c.args.placement In c.args.end (lands c label f b stood))
 
 pub returns-clause-arrives : goal.returns-clause-arrives
 returns-clause-arrives c =

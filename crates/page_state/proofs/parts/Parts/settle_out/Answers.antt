@@ -24,7 +24,7 @@ relist-requires c =
     record { group = fits.1; number = omega (arith, numbers, within); unlisted = fits.0 }
 
 lands : (c : goal.After-relist) (label : Label) (f b : ℕ) → HasResidence c.args.self.now.pages.pages c.args.page.0 label (Going f b c.args.ticket.number)
-    → Lands c.args.self.now (record { pages = c.end_transfer-kind.new.pages; pool = c.give_spare.new.self; slots = c.end_transfer-kind.new.slots; counters = c.end_transfer-kind.new.counters; held = c.relist.new.held; moving = c.relist.new.moving }) c.args.page.0 label f b c.args.ticket.number Out c.args.end
+    → Lands c.args.self.now (record { pages = c.end_transfer-kind.new.pages; pool = c.give_spare.new.self; slots = c.end_transfer-kind.new.slots; counters = c.end_transfer-kind.new.counters; held = c.relist.new.held; moving = c.relist.new.moving }) c.args.page.0 label f b c.args.ticket.number c.args.placement Out c.args.end
 lands c label f b stood =
     let settled = c.end_transfer-kind.ensures in
     let own = settled.label Out label f b stood in
@@ -41,19 +41,19 @@ lands c label f b stood =
       most_spares = ap (λ (q : PoolOf). q.most_spares) c.give_spare.ensures ∙ settled.most_spares;
       spares = omega (arith, spares, more);
       blocks = settled.blocks;
-      held = subst (λ (kind : Kind). JoinsAtEnd Out c.args.end c.args.self.now.held c.relist.new.held label.group kind c.args.page.0) own.1
-          (subst (λ (x : ℕ). JoinsAtEnd Out c.args.end c.args.self.now.held c.relist.new.held x c.end_transfer-kind.result.1 c.args.page.0) own.0 c.relist.ensures.held);
+      held = subst (λ (kind : Kind). JoinsAtEnd c.args.placement Out c.args.end c.args.self.now.held c.relist.new.held label.group kind c.args.page.0) own.1
+          (subst (λ (x : ℕ). JoinsAtEnd c.args.placement Out c.args.end c.args.self.now.held c.relist.new.held x c.end_transfer-kind.result.1 c.args.page.0) own.0 c.relist.ensures.held);
       moving = c.relist.ensures.moving;
     }
 
 pub returns-clause-agree : goal.returns-clause-agree
 returns-clause-agree c =
     let w = c.requires.stands in
-    agree-lands c.args.self.now _ c.requires.agree c.args.page.0 w.0 w.1 w.2 c.args.ticket.number Out c.args.end (lands c w.0 w.1 w.2 w.3)
+    agree-lands c.args.self.now _ c.requires.agree c.args.page.0 w.0 w.1 w.2 c.args.ticket.number c.args.placement Out c.args.end (lands c w.0 w.1 w.2 w.3)
 
 pub returns-clause-settles : goal.returns-clause-settles
 returns-clause-settles c =
-    (λ label f b stood. lands-settles c.args.self.now _ c.requires.agree c.args.page.0 label f b c.args.ticket.number Out c.args.end (lands c label f b stood))
+    (λ label f b stood. lands-settles c.args.self.now _ c.requires.agree c.args.page.0 label f b c.args.ticket.number c.args.placement Out c.args.end (lands c label f b stood))
 
 pub returns-clause-stays : goal.returns-clause-stays
 returns-clause-stays c =
