@@ -43,7 +43,7 @@ fn schedule(script: &str, asked: Asked) -> Result<Vec<u8>, Vec<u8>> {
 fn main() {
     let script = "group /job\nset /job memory.max 8192\ntask 1 /job\ntask 2 /job\n\
                   1 write 0 0 1\n1 write 1 0 1\n2 write 0 0 1\n";
-    match schedule(script, Asked { labels: true, strict: false }) {
+    match schedule(script, Asked { labels: true, strict: false, as_linux: false }) {
         Ok(answers) => std::io::stdout().write_all(&answers).unwrap(),
         Err(fault) => {
             std::io::stderr().write_all(&fault).unwrap();
