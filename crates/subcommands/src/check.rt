@@ -95,8 +95,8 @@ fn tell<O: Write>(
     out.flush()
 }
 
-/// Runs a script that was read, holds its answers against what it expects, and writes a line to `out` that says what comes
-/// of it: behind the file's name how many answers there were, or the first difference.
+/// Runs a script that was read, with pages placed so, holds its answers against what it expects, and writes a line to
+/// `out` that says what comes of it: behind the file's name how many answers there were, or the first difference.
 pub fn check_script<O: Write>(
     alloc: Global,
     placement: Placement,
