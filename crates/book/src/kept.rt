@@ -9,7 +9,7 @@ use machine::reply::Reply;
 use machine::text::Text;
 
 /// An event as a pass keeps it.
-#[derive(Debug, Drop)]
+#[derive(Drop)]
 pub enum Asked {
     /// As it stands in the trace, or would if it had not been refused.
     Whole(Event),
@@ -18,7 +18,7 @@ pub enum Asked {
 }
 
 /// One thing that was asked with a pass.
-#[derive(Debug, Drop)]
+#[derive(Drop)]
 pub enum Kept {
     /// An event and its answer, a refusal too.
     Call { asked: Asked, said: Reply },

@@ -34,7 +34,7 @@ pub struct GroupLook {
 }
 
 /// Whom a relief kills, where it kills anybody.
-#[derive(Clone, Copy, Debug, PartialEq, Eq)]
+#[derive(Clone, Copy)]
 pub struct Victim {
     pub task: TaskId,
     /// How many of its virtual pages show a page.
@@ -48,7 +48,7 @@ pub struct Victim {
 }
 
 /// What is free and what is under way in a whole machine.
-#[derive(Clone, Copy, Debug, PartialEq, Eq)]
+#[derive(Clone, Copy, PartialEq, Eq)]
 pub struct Tally {
     /// Frames that no page has.
     pub free_frames: u32,

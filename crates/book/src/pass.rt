@@ -13,7 +13,7 @@ use std::marker::Model;
 /// answer, refusals too, and each path that was looked for.
 ///
 /// A contract sees whose it is, what it keeps, and for how much more it has memory.
-#[derive(Debug, Drop)]
+#[derive(Drop)]
 pub struct Pass {
     worker: WorkerId,
     kept: Vec<Kept>,

@@ -9,7 +9,7 @@ use std::fmt;
 use std::fmt::{Formatter, Write};
 
 /// Where values stand on a line: the least at 0, and the greatest at its end.
-#[derive(Clone, Copy, Debug, PartialEq, Eq)]
+#[derive(Clone, Copy)]
 pub struct Scale {
     pub least: u64,
     pub greatest: u64,
@@ -89,7 +89,7 @@ pub fn bytes_of(pages: u64) -> u128
 }
 
 /// So many pages in bytes as people write them: in the greatest of the units G, M and K that leaves no rest.
-#[derive(Clone, Copy, Debug)]
+#[derive(Clone, Copy)]
 pub struct Size(pub u64);
 
 impl fmt::Display for Size {

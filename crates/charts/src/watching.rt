@@ -26,14 +26,14 @@ pub struct Shown {
 }
 
 /// What is shown of all paths, behind each of so many steps, one after the other.
-#[derive(Debug, Drop)]
+#[derive(Drop)]
 pub struct Row {
     pub groups: Vec<Shown>,
     pub steps: u64,
 }
 
 /// A task was killed in the step that stands at this place.
-#[derive(Clone, Copy, Debug, PartialEq, Eq)]
+#[derive(Clone, Copy)]
 pub struct Kill {
     pub step: usize,
     pub task: TaskId,
@@ -59,7 +59,7 @@ fn kill_of(step: usize, answer: &Answer) -> Option<Kill> {
 }
 
 /// What a run showed.
-#[derive(Debug, Drop)]
+#[derive(Drop)]
 pub struct Watched {
     /// In order of the steps.
     pub rows: Vec<Row>,

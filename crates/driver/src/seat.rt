@@ -4,7 +4,7 @@ use machine::command::{Actor, Answer, Command};
 use turns::turn::{Kill, Stage};
 
 /// What a turn shows.
-#[derive(Debug, Drop)]
+#[derive(Drop)]
 pub enum Outcome {
     Goes,
     Kills(Kill),

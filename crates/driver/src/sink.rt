@@ -11,7 +11,7 @@ use machine::refusal::Refusal;
 use std::alloc::AllocError;
 
 /// The sink takes no more answers. Why, it knows itself.
-#[derive(Clone, Copy, Debug, PartialEq, Eq)]
+#[derive(Clone, Copy)]
 pub struct Closed;
 
 /// Takes the answers of a run, each as it comes: a list keeps them, a writer prints them. Between two steps it may look
@@ -85,7 +85,7 @@ impl Sink for Vec<Reply> {
 }
 
 /// Why a run was cut short.
-#[derive(Clone, Copy, Debug, PartialEq, Eq)]
+#[derive(Clone, Copy)]
 pub enum Cut {
     /// Memory was wanted, for what is no command's answer, and refused.
     NoMemory,
@@ -106,7 +106,7 @@ impl From<Closed> for Cut {
 }
 
 /// Why a run into a sink did not go through.
-#[derive(Clone, Copy, Debug, PartialEq, Eq)]
+#[derive(Clone, Copy)]
 pub enum Stop {
     /// As [`crate::run`]: the configuration is out of its limits or the device has too few blocks, or
     /// memory was wanted and refused.

@@ -3,7 +3,7 @@
 use std::{fmt, str};
 
 /// Where what was answered is not what the script expects, by a line of the script.
-#[derive(Clone, Copy, Debug, PartialEq, Eq)]
+#[derive(Clone, Copy)]
 pub enum Difference<'a> {
     /// The line expects a text, and another was answered.
     Other {

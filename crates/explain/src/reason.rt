@@ -31,7 +31,7 @@ impl fmt::Display for Named {
 
 /// Why a command ended with a word that says that it did not do what it was asked for, or why it did not begin. Each is
 /// either known from the command and the word, or says what it can be.
-#[derive(Clone, Copy, Debug, PartialEq, Eq)]
+#[derive(Clone, Copy)]
 pub enum Reason<'a> {
     /// The actor has no command under way.
     Idle(Actor),

@@ -19,7 +19,7 @@ use text_forms::number::is_digits;
 const MOST_LEVELS: usize = 16;
 
 /// A command, and where it stands in the script.
-#[derive(Clone, Copy, Debug)]
+#[derive(Clone, Copy)]
 pub struct Told<'a> {
     pub actor: Actor,
     pub command: &'a Command,

@@ -5,7 +5,7 @@ use std::fmt::{Formatter, Write};
 
 /// The words of a line with a single space between any two, and their control characters written out. It takes no
 /// memory.
-#[derive(Clone, Copy, Debug)]
+#[derive(Clone, Copy)]
 pub struct Words<'a>(pub &'a str);
 
 impl fmt::Display for Words<'_> {

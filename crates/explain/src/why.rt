@@ -8,7 +8,7 @@ use std::fmt::{Formatter, Write};
 const MOST_SHOWN: usize = 64;
 
 /// A word of a line, with its place among the line's words, counted from 1.
-#[derive(Clone, Copy, Debug)]
+#[derive(Clone, Copy)]
 pub struct Placed<'a> {
     pub number: usize,
     pub text: &'a str,
@@ -65,7 +65,7 @@ impl fmt::Display for Behind {
 }
 
 /// What makes a path none, or a name.
-#[derive(Clone, Copy, Debug)]
+#[derive(Clone, Copy)]
 pub enum BadPath<'a> {
     NoSlash,
     SlashAtTheEnd,
@@ -92,7 +92,7 @@ impl fmt::Display for BadPath<'_> {
 }
 
 /// What is wrong with a line.
-#[derive(Clone, Copy, Debug)]
+#[derive(Clone, Copy)]
 pub enum Why<'a> {
     /// The script begins with the mark of another encoding.
     Utf16,

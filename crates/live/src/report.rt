@@ -3,7 +3,7 @@
 use trace::{First, Trace};
 
 /// What workers did, from the opening to the end.
-#[derive(Debug, Drop)]
+#[derive(Drop)]
 pub struct Report {
     /// All that was asked and answered, in the order in which the book took it.
     pub trace: Trace,
@@ -15,7 +15,7 @@ pub struct Report {
 }
 
 /// Why a run is not finished.
-#[derive(Clone, Copy, Debug, PartialEq, Eq)]
+#[derive(Clone, Copy, PartialEq, Eq)]
 pub enum Unfinished {
     /// So many passes were given out, and one of them was not handed in, or has a ticket out.
     PassMissing(u32),

@@ -10,7 +10,7 @@ use machine::record::Kind;
 use rings::ListId;
 
 /// The sequence numbers of a group's generations: those of each type go from its oldest to the youngest.
-#[derive(Clone, Copy, Debug, PartialEq, Eq)]
+#[derive(Clone, Copy)]
 pub struct Numbers {
     pub max_seq: u64,
     pub anon_min_seq: u64,

@@ -115,7 +115,7 @@ const SEQS: u64 = 200;
 const CALLS: usize = 10_000;
 
 // What a call of the next test is.
-#[derive(Clone, Copy, PartialEq)]
+#[derive(Clone, Copy)]
 enum Call {
     Add,
     Isolate,

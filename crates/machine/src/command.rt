@@ -10,7 +10,7 @@ use crate::text::Text;
 use std::alloc::{AllocError, Global};
 
 /// Who does something.
-#[derive(Clone, Copy, Debug, PartialEq, Eq)]
+#[derive(Clone, Copy, Debug)]
 pub enum Actor {
     /// The task of this number, whether it is there or not.
     Task(u32),
@@ -24,7 +24,7 @@ pub enum Actor {
 
 /// What an actor is told to do: `Access`, `Fork`, `Free` and `Exit` are for a task, `Daemon` for the
 /// daemon, all others for the shell and for control.
-#[derive(Debug, Drop)]
+#[derive(Drop)]
 pub enum Command {
     Access {
         place: Place,
@@ -123,7 +123,7 @@ impl Command {
 }
 
 /// A line of a schedule.
-#[derive(Debug, Drop)]
+#[derive(Drop)]
 pub enum Step {
     /// The actor's command is this from now on, unless its last one is not answered yet.
     Begin(Actor, Command),

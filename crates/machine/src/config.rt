@@ -10,7 +10,7 @@ use std::marker::Model;
 
 /// The daemon's marks, in free frames, `low` at most `high` and `high` at most the frames (kernel:
 /// `WMARK_LOW` and `WMARK_HIGH` of a `struct zone`).
-#[derive(Clone, Copy, Debug, Default, PartialEq, Eq)]
+#[derive(Clone, Copy, Default)]
 pub struct Watermarks {
     /// The daemon begins where fewer frames are free.
     pub low: u32,
@@ -28,14 +28,14 @@ impl Watermarks {
 }
 
 /// A file: its name, of 1 to 32 characters as that of a group, and how many pages it has, at least one.
-#[derive(Debug, Drop)]
+#[derive(Drop)]
 pub struct File {
     pub name: Text,
     pub pages: u32,
 }
 
 /// Files, each by its place in the list. A contract sees it as that list.
-#[derive(Debug, Drop)]
+#[derive(Drop)]
 pub struct FileList {
     files: Vec<File>,
 }
@@ -91,7 +91,7 @@ pub enum Placement {
 }
 
 /// How large the machine is.
-#[derive(Debug, Drop)]
+#[derive(Drop)]
 pub struct Config {
     /// Page frames, 1 to 65,536.
     pub frames: u32,

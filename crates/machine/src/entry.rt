@@ -5,7 +5,7 @@ use crate::id::WorkerId;
 use crate::reply::Reply;
 
 /// An event that was not refused, with its reply.
-#[derive(Debug, Drop)]
+#[derive(Drop)]
 pub struct Entry {
     /// Who asked.
     pub worker: WorkerId,

@@ -8,7 +8,7 @@ use crate::record::{Guard, OomGroup};
 use crate::text::Text;
 
 /// Where an access goes.
-#[derive(Clone, Copy, Debug, PartialEq, Eq)]
+#[derive(Clone, Copy, PartialEq, Eq)]
 pub enum Place {
     /// A byte of a virtual page of the task.
     Virtual { page: u32, offset: u32 },
@@ -18,7 +18,7 @@ pub enum Place {
 }
 
 /// What an access does to its byte.
-#[derive(Clone, Copy, Debug, PartialEq, Eq)]
+#[derive(Clone, Copy, PartialEq, Eq)]
 pub enum Op {
     Read,
     Write(u8),
@@ -36,7 +36,7 @@ pub enum Cause {
 }
 
 /// A new value for a setting of a group.
-#[derive(Clone, Copy, Debug, PartialEq, Eq)]
+#[derive(Clone, Copy, PartialEq, Eq)]
 pub enum Setting {
     /// `memory.max`
     Max(Amount),
@@ -47,7 +47,7 @@ pub enum Setting {
 }
 
 /// Whose numbers are asked for: those of one control file of one group, or a group's protection.
-#[derive(Clone, Copy, Debug, PartialEq, Eq)]
+#[derive(Clone, Copy, PartialEq, Eq)]
 pub enum Query {
     /// `memory.current`
     Current(GroupId),
@@ -73,7 +73,7 @@ pub enum Query {
 }
 
 /// One event of the machine.
-#[derive(Debug, Drop)]
+#[derive(Drop)]
 pub enum Event {
     /// A task reads or writes a byte (kernel: `handle_mm_fault` and the access that is tried again).
     Access { task: TaskId, place: Place, op: Op },

@@ -27,5 +27,5 @@ pub struct FrameId(pub u32);
 pub struct TicketId(pub u32);
 
 /// A worker, by the pass that it was given.
-#[derive(Clone, Copy, Debug, PartialEq, Eq)]
+#[derive(Clone, Copy, PartialEq, Eq)]
 pub struct WorkerId(pub u32);

@@ -22,7 +22,7 @@ pub struct Task {
 }
 
 /// Which way a page in transfer goes.
-#[derive(Clone, Copy, Debug, PartialEq, Eq)]
+#[derive(Clone, Copy)]
 pub enum Direction {
     /// It is being read in.
     In,
@@ -31,14 +31,14 @@ pub enum Direction {
 }
 
 /// The type of a page: memory of tasks, or of a file (kernel: LRU_GEN_ANON, LRU_GEN_FILE).
-#[derive(Clone, Copy, Debug, PartialEq, Eq)]
+#[derive(Clone, Copy, PartialEq, Eq)]
 pub enum Kind {
     Anon,
     File,
 }
 
 /// What is counted in `memory.events`.
-#[derive(Clone, Copy, Debug, PartialEq, Eq)]
+#[derive(Clone, Copy)]
 pub enum Key {
     Low,
     High,
@@ -95,7 +95,7 @@ pub enum OomGroup {
 }
 
 /// The limits of a group.
-#[derive(Clone, Copy, Debug, PartialEq, Eq)]
+#[derive(Clone, Copy)]
 pub struct Limits {
     /// `memory.max`: no charge passes it.
     pub max: Amount,

@@ -21,7 +21,7 @@ pub enum Subcommand {
 }
 
 /// What is asked for.
-#[derive(Debug, Drop)]
+#[derive(Drop)]
 pub enum Asked<'a> {
     /// To run a script.
     Script(Request<'a>),
@@ -30,7 +30,7 @@ pub enum Asked<'a> {
 }
 
 /// A subcommand and the path of its script.
-#[derive(Clone, Copy, Debug, PartialEq, Eq)]
+#[derive(Clone, Copy)]
 pub struct Request<'a> {
     pub subcommand: Subcommand,
     pub file: &'a str,
@@ -40,7 +40,7 @@ pub struct Request<'a> {
 }
 
 /// Why there is no request.
-#[derive(Debug, Drop)]
+#[derive(Drop)]
 pub enum Refused {
     /// The text for the user: what was asked for, or else what is wrong, with a usage line. It says
     /// itself which of the two it is.

@@ -22,7 +22,7 @@ use trace::First;
 pub const PARTS: u64 = 131_073;
 
 /// What came of it.
-#[derive(Debug, Drop)]
+#[derive(Drop)]
 pub struct Ended {
     /// What was answered before the workers worked at the same time, by each of them, and behind that.
     pub before: String,

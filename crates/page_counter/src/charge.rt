@@ -45,5 +45,5 @@ impl Charge {
 }
 
 /// No charge: one page more would pass this group's max.
-#[derive(Clone, Copy, Debug, PartialEq, Eq)]
+#[derive(Clone, Copy)]
 pub struct Over(pub GroupId);

@@ -13,7 +13,7 @@ use page_counter::{Charge, Counters};
 use pages::WayOut;
 
 /// Why a page cannot be charged to a group and brought into a frame.
-#[derive(Clone, Copy, Debug, PartialEq, Eq)]
+#[derive(Clone, Copy)]
 pub enum NoRoom {
     /// One page more would pass a max: this is the lowest group whose max it is.
     Over(GroupId),

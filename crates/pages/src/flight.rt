@@ -4,7 +4,7 @@ use machine::id::PageId;
 use machine::record::Direction;
 
 /// A transfer in flight, by its ticket.
-#[derive(Clone, Copy, Debug, PartialEq, Eq)]
+#[derive(Clone, Copy)]
 pub struct Flight {
     /// The page that is in transfer.
     pub page: PageId,

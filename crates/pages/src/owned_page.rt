@@ -10,7 +10,7 @@ use machine::record::Direction;
 use page_counter::Charge;
 
 /// A page of a file (kernel: `mapping` and `index` of a `struct folio`).
-#[derive(Clone, Copy, Debug, PartialEq, Eq)]
+#[derive(Clone, Copy)]
 pub struct FilePage {
     /// The file's place in the list of files.
     pub file: u32,
@@ -19,7 +19,7 @@ pub struct FilePage {
 }
 
 /// What a page holds, wherever it is.
-#[derive(Clone, Copy, Debug, PartialEq, Eq)]
+#[derive(Clone, Copy)]
 pub enum Content {
     /// Memory of tasks.
     Memory,

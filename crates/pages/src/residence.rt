@@ -1,7 +1,7 @@
 use machine::id::FrameId;
 
 /// Where a page is.
-#[derive(Clone, Copy, Debug, PartialEq, Eq)]
+#[derive(Clone, Copy)]
 pub enum Residence {
     /// In a frame.
     Held(FrameId),

@@ -4,7 +4,7 @@ use crate::owned_page::FilePage;
 use machine::id::PageId;
 
 /// What a transfer that begins reads in.
-#[derive(Clone, Copy, Debug, PartialEq, Eq)]
+#[derive(Clone, Copy)]
 pub enum Source {
     /// Memory of tasks that is on its slot alone (kernel: `do_swap_page`).
     Swapped(PageId),

@@ -10,7 +10,7 @@ use std::fmt;
 use std::fmt::{Formatter, Write};
 
 /// Who died, as an answer tells it.
-#[derive(Clone, Copy, Debug)]
+#[derive(Clone, Copy)]
 pub struct Killed {
     pub victim: TaskId,
     /// How many died with a group that was killed as one, the victim among them. `None` where it died alone.
@@ -43,7 +43,7 @@ impl fmt::Display for Killed {
 }
 
 /// A task that is killed so that there is room, and the group under which room is wanted, as they were before.
-#[derive(Clone, Copy, Debug)]
+#[derive(Clone, Copy)]
 pub struct Killing<'s> {
     pub victim: Victim,
     /// Why room is wanted.

@@ -10,7 +10,7 @@ use std::io;
 use std::io::Write;
 
 /// Calls of a device that went well.
-#[derive(Clone, Copy, Debug, Default, PartialEq, Eq)]
+#[derive(Clone, Copy, Default)]
 pub struct Calls {
     /// Writes to swap blocks.
     to_swap: u64,
@@ -69,7 +69,7 @@ impl<'d, D: BlockDevice> BlockDevice for Metered<'d, D> {
 }
 
 /// How many pages a run moved.
-#[derive(Clone, Copy, Debug, PartialEq, Eq)]
+#[derive(Clone, Copy)]
 pub struct Moved {
     /// Pages that arrived from the device.
     read_in: u64,

@@ -13,7 +13,7 @@ use std::io;
 use std::io::Write;
 
 /// A path of the script, and what was seen of the groups that had it.
-#[derive(Clone, Copy, Debug)]
+#[derive(Clone, Copy)]
 struct Seen<'s> {
     path: &'s str,
     /// The most pages that were charged to one of them and below it behind a step.

@@ -43,7 +43,7 @@ impl<'s> Source<'s> {
 }
 
 /// A line of a script, without its end.
-#[derive(Clone, Copy, Debug)]
+#[derive(Clone, Copy)]
 pub struct Line<'s> {
     text: &'s str,
 }

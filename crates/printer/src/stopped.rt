@@ -7,7 +7,7 @@ use std::alloc::AllocError;
 use std::io;
 
 /// Why no more answers are taken.
-#[derive(Debug, Drop)]
+#[derive(Drop)]
 pub enum Stopped {
     /// An answer could not be written.
     Unwritten(io::Error),

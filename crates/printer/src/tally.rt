@@ -30,7 +30,7 @@ const REFUSING: [Word; 18] = [
 ];
 
 /// What a run has answered.
-#[derive(Clone, Copy, Debug)]
+#[derive(Clone, Copy)]
 pub struct Tally {
     /// Commands that came to their end.
     ended: u64,
@@ -92,7 +92,7 @@ fn bump(count: &mut u64) {
 }
 
 /// How much was done, a line a number. Of pages it says nothing where the run was cut short.
-#[derive(Clone, Copy, Debug)]
+#[derive(Clone, Copy)]
 pub struct Summary {
     pub tally: Tally,
     /// Up to which line the script was run.

@@ -10,7 +10,7 @@ use std::alloc::{AllocError, Global};
 use std::marker::Model;
 
 /// The group that gives a page to a reclaim.
-#[derive(Clone, Copy, Debug, PartialEq, Eq)]
+#[derive(Clone, Copy)]
 pub struct Served {
     pub group: GroupId,
     /// Its low protects it, and no group that is not so protected has a page to give (kernel:

@@ -8,12 +8,12 @@ use machine::id::PageId;
 use std::marker::Model;
 
 /// A list. Lists are numbered from 0 on, in the order in which they were added.
-#[derive(Clone, Copy, Debug, PartialEq, Eq)]
+#[derive(Clone, Copy, PartialEq, Eq)]
 pub struct ListId(pub u32);
 
 /// What stands in a ring: a page, or the head of a list (kernel: a `struct list_head *`, which is
 /// `lru` of a folio or a list's own head).
-#[derive(Clone, Copy, Debug, PartialEq, Eq)]
+#[derive(Clone, Copy)]
 pub enum RingNode {
     Page(PageId),
     Head(ListId),

@@ -8,7 +8,7 @@ use std::alloc::{AllocError, Global};
 use std::marker::Model;
 
 /// What a line asks for.
-#[derive(Debug, Drop)]
+#[derive(Drop)]
 pub enum Entry {
     /// A command of the actor from its beginning to its end.
     Whole(Actor, Command),
@@ -17,7 +17,7 @@ pub enum Entry {
 }
 
 /// A line of a schedule.
-#[derive(Debug, Drop)]
+#[derive(Drop)]
 pub struct Line {
     /// The place of its first step in the list of all steps.
     pub first: usize,
@@ -27,7 +27,7 @@ pub struct Line {
 }
 
 /// The lines of a schedule that ask for something, in their order.
-#[derive(Debug, Drop)]
+#[derive(Drop)]
 pub struct Schedule {
     table: Vec<Line>,
 }

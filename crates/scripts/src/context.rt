@@ -10,7 +10,7 @@ use crate::mode::Mode;
 use machine::config::Config;
 
 /// What a line has to know of the other lines.
-#[derive(Debug, Drop)]
+#[derive(Drop)]
 pub struct Context {
     /// What the script is read for.
     pub mode: Mode,

@@ -60,7 +60,7 @@ impl fmt::Display for Cause {
 }
 
 /// Why a line could not be read.
-#[derive(Debug, Drop)]
+#[derive(Drop)]
 pub enum LineError {
     Memory,
     Fault(Cause),
@@ -83,7 +83,7 @@ impl<T: Drop> From<AllocFailed<T>> for LineError {
 }
 
 /// Why a script could not be read.
-#[derive(Clone, Copy, Debug, PartialEq, Eq, Error)]
+#[derive(Clone, Copy, Debug, Error)]
 #[error("{}", self.text())]
 pub enum ScriptFault {
     /// The first faulty line, counted from 1, and what is wrong with it.
@@ -102,7 +102,7 @@ impl ScriptFault {
 }
 
 /// What is said of a fault. Its bytes are known, as those of a derived message are not.
-#[derive(Clone, Copy, Debug, PartialEq, Eq)]
+#[derive(Clone, Copy)]
 pub struct FaultText {
     pub fault: ScriptFault,
 }

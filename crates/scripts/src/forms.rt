@@ -8,7 +8,7 @@ use machine::command::Actor;
 use machine::limit::{LAST_NUMBER, MOST_ENTRIES, MOST_FRAMES, MOST_SWAP};
 
 /// Who says a word.
-#[derive(Clone, Copy, Debug, PartialEq, Eq)]
+#[derive(Clone, Copy)]
 pub enum Speaker {
     /// The shell: the word stands first.
     Shell,
@@ -17,7 +17,7 @@ pub enum Speaker {
 }
 
 /// What an argument has to be.
-#[derive(Clone, Copy, Debug, PartialEq, Eq)]
+#[derive(Clone, Copy, PartialEq, Eq)]
 pub enum Kind {
     /// A number from `least` to `most`, both included.
     Number { least: u32, most: u32 },
@@ -36,7 +36,7 @@ pub enum Kind {
 }
 
 /// How a line stands.
-#[derive(Clone, Copy, Debug, PartialEq, Eq)]
+#[derive(Clone, Copy)]
 pub enum Manner {
     /// By itself.
     Whole,
@@ -45,7 +45,7 @@ pub enum Manner {
 }
 
 /// A call of the device.
-#[derive(Clone, Copy, Debug, PartialEq, Eq)]
+#[derive(Clone, Copy)]
 pub enum DeviceCall {
     Read,
     Write,
@@ -84,7 +84,7 @@ pub enum Word {
 }
 
 /// How a line with a word is written: one row of the table of words.
-#[derive(Clone, Copy, Debug)]
+#[derive(Clone, Copy)]
 pub struct Form {
     /// The word as it is written.
     pub name: &'static str,

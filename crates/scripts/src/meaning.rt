@@ -21,7 +21,7 @@ use machine::text::Text;
 use std::alloc::{AllocError, Global};
 
 /// What a line says.
-#[derive(Debug, Drop)]
+#[derive(Drop)]
 pub enum Item {
     /// Nothing: the line is skipped.
     Nothing,

@@ -32,7 +32,7 @@ use schedules::{Entry, Schedule};
 use std::alloc::{AllocError, Global};
 
 /// What a script says.
-#[derive(Debug, Drop)]
+#[derive(Drop)]
 pub struct Script {
     /// What the header fixes.
     pub config: Config,
@@ -50,7 +50,7 @@ pub struct Script {
 }
 
 /// What has been read of a script.
-#[derive(Debug, Drop)]
+#[derive(Drop)]
 struct Reading {
     context: Context,
     /// A `go` came.

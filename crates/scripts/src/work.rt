@@ -14,7 +14,7 @@ use std::marker::Model;
 /// The actors that are asked for something, and what, under their numbers.
 ///
 /// A contract sees them as the list of the actors with their commands, by rising number.
-#[derive(Debug, Drop)]
+#[derive(Drop)]
 pub struct Work {
     rows: BTreeMap<u64, (Actor, Vec<Command>)>,
 }

@@ -8,7 +8,7 @@ use std::alloc::Global;
 const BEHIND_ALL: u32 = 1000;
 
 /// Where the refusal is met.
-#[derive(Clone, Copy, Debug, PartialEq, Eq)]
+#[derive(Clone, Copy)]
 pub enum Met {
     /// Before the first step.
     Before,
@@ -19,7 +19,7 @@ pub enum Met {
 }
 
 /// What was asked, by its name, and what was answered.
-#[derive(Clone, Copy, Debug, PartialEq, Eq)]
+#[derive(Clone, Copy, PartialEq, Eq)]
 pub struct Told {
     pub name: &'static str,
     pub reply: Reply,

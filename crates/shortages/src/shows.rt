@@ -16,13 +16,13 @@ const PATHS: [&str; 6] = ["/", "/a", "/b", "/c", "/d", "/e"];
 const GROUPS: usize = 10;
 
 /// What is shown of one group: its files, where it is there.
-#[derive(Clone, Copy, Debug, PartialEq, Eq)]
+#[derive(Clone, Copy, PartialEq, Eq)]
 struct GroupShown {
     files: [Option<Shown>; 10],
 }
 
 /// What is shown of all groups, and which group has each path.
-#[derive(Clone, Copy, Debug, PartialEq, Eq)]
+#[derive(Clone, Copy, PartialEq, Eq)]
 pub struct Shows {
     groups: [GroupShown; GROUPS],
     numbers: [Option<u32>; 6],

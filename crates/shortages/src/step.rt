@@ -4,7 +4,7 @@ use machine::event::{Cause, Op, Place, Query, Setting};
 use machine::id::{GroupId, TaskId};
 
 /// How a transfer ends that a step begins, and what its end is called.
-#[derive(Clone, Copy, Debug, PartialEq, Eq)]
+#[derive(Clone, Copy)]
 pub enum End {
     /// The device's block is read or written.
     Good(&'static str),
@@ -13,7 +13,7 @@ pub enum End {
 }
 
 /// An event of groups.
-#[derive(Clone, Copy, Debug, PartialEq, Eq)]
+#[derive(Clone, Copy)]
 pub enum GroupChange {
     Mkdir(&'static str),
     Rmdir(GroupId),
@@ -22,7 +22,7 @@ pub enum GroupChange {
 }
 
 /// An event of tasks that gives out no ticket.
-#[derive(Clone, Copy, Debug, PartialEq, Eq)]
+#[derive(Clone, Copy)]
 pub enum TaskChange {
     Spawn { task: TaskId, group: GroupId },
     Fork { task: TaskId, child: TaskId },
@@ -32,7 +32,7 @@ pub enum TaskChange {
 }
 
 /// An event, but for the ends of transfers.
-#[derive(Clone, Copy, Debug, PartialEq, Eq)]
+#[derive(Clone, Copy)]
 pub enum Ask {
     Group(GroupChange),
     Task(TaskChange),
@@ -44,7 +44,7 @@ pub enum Ask {
 }
 
 /// An event, by the name that it is told by.
-#[derive(Clone, Copy, Debug, PartialEq, Eq)]
+#[derive(Clone, Copy)]
 pub struct Step {
     pub name: &'static str,
     pub ask: Ask,

@@ -125,7 +125,7 @@ impl fmt::Display for Rest<'_> {
 
 /// What the frames of a machine and the blocks of its device take: 4,096 bytes each. The machine wants
 /// more than these.
-#[derive(Clone, Copy, Debug, PartialEq, Eq)]
+#[derive(Clone, Copy, Debug)]
 pub struct Wanted {
     frames: u32,
     swap: u32,

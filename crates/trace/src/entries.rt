@@ -17,7 +17,6 @@ use machine::bytes::PageBytes;
 use machine::entry::Entry;
 use machine::id::{TaskId, TicketId};
 use std::alloc::{AllocError, Global};
-use std::fmt;
 use std::marker::Model;
 
 /// The trace of a machine: the entries of what was asked and answered, the oldest first. Beside each access is
@@ -167,11 +166,5 @@ impl Trace {
         ensures within { IfSome result (λ r. r.at < end) }
     {
         fetch_of(&self.entries, end, ticket)
-    }
-}
-
-impl fmt::Debug for Trace {
-    fn fmt<W: fmt::Write>(&self, f: &mut fmt::Formatter<W>) -> fmt::Result {
-        self.entries.fmt(f)
     }
 }

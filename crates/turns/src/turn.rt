@@ -13,7 +13,7 @@ use machine::record::{Guard, OomGroup};
 use machine::text::Text;
 
 /// A task's access to a byte.
-#[derive(Clone, Copy, Debug, PartialEq, Eq)]
+#[derive(Clone, Copy)]
 pub struct Access {
     pub task: TaskId,
     pub place: Place,
@@ -46,7 +46,7 @@ impl Access {
 
 /// A state that holds no ticket: what a command goes on with once a transfer has ended, its own or
 /// another's.
-#[derive(Clone, Copy, Debug, PartialEq, Eq)]
+#[derive(Clone, Copy)]
 pub enum Resume {
     /// The access is tried again.
     Try(Access),
@@ -130,7 +130,7 @@ pub enum Stage {
 }
 
 /// What a command remembers while its event is with the book.
-#[derive(Clone, Copy, Debug, PartialEq, Eq)]
+#[derive(Clone, Copy)]
 pub enum Pending {
     Try(Access),
     MakeRoom(Access, Cause),
@@ -182,7 +182,7 @@ pub enum Want {
 }
 
 /// Who was killed.
-#[derive(Clone, Copy, Debug, PartialEq, Eq)]
+#[derive(Clone, Copy)]
 pub enum Kill {
     /// A task, alone.
     One(TaskId),
