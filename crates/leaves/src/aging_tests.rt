@@ -3,7 +3,7 @@
 ghost use Rattle.std.specs.Prelude.{◌≡◌, ◌∷◌, [], IfOk};
 ghost use Rattle.machine.specs.Generations.{new_gens, added};
 
-use crate::{MarkSet, age};
+use aging::{MarkSet, age};
 use lru_gen::Gens;
 use machine::id::{GroupId, PageId};
 use machine::record::Kind;

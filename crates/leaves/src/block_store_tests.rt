@@ -3,7 +3,7 @@
 ghost use Rattle.std.specs.Prelude.{◌≡◌, ◌≢◌, ℕ, ◌+◌, ◌<◌, length, IfSome, OnSome, IfNone};
 ghost use Rattle.block_store.specs.Device.{bytes_on};
 
-use crate::{BLOCK_BYTES, BlockDevice, Fault, MemDevice, Slots};
+use block_store::{BLOCK_BYTES, BlockDevice, Fault, MemDevice, Slots};
 use std::test::Fail;
 
 /// What a block holds after it was written, if both calls are good.

@@ -1,7 +1,7 @@
 use Rattle.machine.specs.Generations.{row_of}
 use Rattle.lru_gen.specs.Gens.{gens_of}
 use Rattle.lru_gen.proofs.SearchLemmas.{first_is_there, after_is_there}
-use Rattle.lru_gen.proofs.tests.walk.Goals as goal
+use Rattle.leaves.proofs.lru_gen_tests.walk.Goals as goal
 
 pub loop-init : goal.loop-init
 loop-init c =

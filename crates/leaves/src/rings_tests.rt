@@ -1,7 +1,8 @@
-use super::*;
+//! Lists of pages, and plain vectors after the same calls.
+
 use machine::id::PageId;
+use rings::{ListId, RingNode, Rings};
 use std::alloc::{AllocError, Global};
-use std::mem::size_of;
 use std::test::Fail;
 
 // The example of the README.
@@ -23,14 +24,6 @@ fn the_older_pages_come_first(rt: HostRuntime) -> Result<(), Fail> {
     assert!(rt; rings.is_empty(old));
     assert!(rt; !rings.is_listed(PageId(3)));
     Ok(())
-}
-
-// The numbers that the crate's first lines tell.
-#[test]
-fn links_are_small(rt: HostRuntime) {
-    assert_eq!(rt; size_of::<RingNode>(), 8);
-    assert_eq!(rt; size_of::<Link>(), 8);
-    assert_eq!(rt; size_of::<Option<Link>>(), 12);
 }
 
 // There are fewer page numbers than a link can name.

@@ -4,7 +4,7 @@ ghost use Rattle.std.specs.Prelude.{◌≡◌, ℕ, ◌+◌, ◌/◌, ◌%◌, �
 ghost use Rattle.std.specs.Int.{bit_at};
 ghost use Rattle.marks.specs.Logs.{IsHarvested};
 
-use crate::{Found, Marks, Seat};
+use marks::{Found, Marks, Seat};
 use std::alloc::AllocError;
 use std::test::Fail;
 use std::thread;

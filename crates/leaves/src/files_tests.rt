@@ -1,5 +1,7 @@
-use super::*;
-use machine::config::{Config, File, Placement, Watermarks};
+//! Which lists of files there can be.
+
+use files::blocks_for;
+use machine::config::{Config, File, FileList, Placement, Watermarks};
 use machine::text::Text;
 use std::alloc::{AllocError, Global};
 use std::test::Fail;

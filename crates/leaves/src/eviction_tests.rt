@@ -3,8 +3,8 @@
 ghost use Rattle.std.specs.Prelude.{◌≡◌, ◌∷◌, [], IfOk};
 ghost use Rattle.machine.specs.Generations.{new_gens, added};
 
-use crate::{Pick, pick};
 use aging::MarkSet;
+use eviction::{Pick, pick};
 use lru_gen::Gens;
 use machine::id::{GroupId, PageId};
 use machine::record::Kind;

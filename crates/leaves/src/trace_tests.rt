@@ -1,16 +1,13 @@
 //! Small traces, and what is wrong in them.
 
-use crate::link::Link;
-use crate::row::Row;
-use crate::{First, Trace, audit};
 use machine::bytes::{PAGE_BYTES, PageBytes};
 use machine::entry::Entry;
 use machine::event::{Cause, Event, Op, Place};
 use machine::id::{GroupId, TaskId, TicketId, WorkerId};
 use machine::reply::Reply;
 use std::alloc::{AllocError, Global};
-use std::mem::size_of;
 use std::test::Fail;
+use trace::{First, Trace, audit};
 
 const FIRST: Place = Place::Virtual { page: 0, offset: 0 };
 
@@ -344,91 +341,62 @@ fn many_hits(rt: HostRuntime) -> Result<(), Fail> {
     Ok(())
 }
 
-/// The link of the entry at a place, counted from 0.
-fn link_at(trace: &Trace, at: usize) -> Link {
-    if at >= trace.len() {
-        return Link::Unknown;
-    }
-    trace.link(at)
-}
+/// How many times the reads of [`many_reads`] go round.
+const ROUNDS: usize = 160_000;
 
-// No contract says that a link is known. With memory for the task each access knows the last write to its page, or
-// that there was none, and a child's knows that of its parent.
-#[test]
-fn links_lead_to_the_last_write_of_a_page(rt: HostRuntime) -> Result<(), Fail> {
-    let mut trace = opened(rt.alloc(), 8)?;
+/// So many rounds of reads behind what was written: of pages that were written, by the task and by a child of it, of
+/// one that was freed, of pages that nobody wrote, and of a file that another task wrote.
+fn many_reads(alloc: Global) -> Result<Trace, AllocError> {
+    let mut trace = opened(alloc, 1_000_000)?;
     add(&mut trace, spawned(1));
     add(&mut trace, written(1, FIRST, 5));
-    add(&mut trace, read(1, SECOND, 0));
     add(&mut trace, written(1, SECOND, 6));
-    add(&mut trace, read(1, FIRST, 5));
-    add(&mut trace, forked(1, 2));
-    add(&mut trace, read(2, FIRST, 5));
-    assert!(rt; matches!(link_at(&trace, 1), Link::First));
-    assert!(rt; matches!(link_at(&trace, 2), Link::After(1)));
-    assert!(rt; matches!(link_at(&trace, 3), Link::After(1)));
-    assert!(rt; matches!(link_at(&trace, 4), Link::After(3)));
-    assert!(rt; matches!(link_at(&trace, 6), Link::After(3)));
-    assert_eq!(rt; audit(&trace), Ok(()));
-    Ok(())
-}
-
-// So it is with a file's, whichever task reaches for it, and with a page that was freed.
-#[test]
-fn links_lead_to_the_last_write_of_a_file(rt: HostRuntime) -> Result<(), Fail> {
-    let mut trace = opened(rt.alloc(), 8)?;
-    add(&mut trace, spawned(1));
-    add(&mut trace, spawned(2));
-    add(&mut trace, written(1, OF_A_FILE, 5));
-    add(&mut trace, read(2, OF_A_FILE, 5));
-    add(&mut trace, written(1, FIRST, 6));
-    add(&mut trace, freed(1, 0));
-    add(&mut trace, read(1, FIRST, 0));
-    assert!(rt; matches!(link_at(&trace, 2), Link::First));
-    assert!(rt; matches!(link_at(&trace, 3), Link::After(2)));
-    assert!(rt; matches!(link_at(&trace, 6), Link::First));
-    assert_eq!(rt; audit(&trace), Ok(()));
-    Ok(())
-}
-
-// What is known of pages that were not written comes to a child too, of those before the one that was and behind it.
-#[test]
-fn a_child_knows_the_pages_that_were_not_written(rt: HostRuntime) -> Result<(), Fail> {
-    let mut trace = opened(rt.alloc(), 8)?;
-    add(&mut trace, spawned(1));
     add(&mut trace, written(1, page_of_a_task(5), 9));
+    add(&mut trace, written(1, page_of_a_task(6), 9));
+    add(&mut trace, freed(1, 6));
     add(&mut trace, forked(1, 2));
-    add(&mut trace, read(2, page_of_a_task(2), 0));
-    add(&mut trace, read(2, page_of_a_task(5), 9));
-    add(&mut trace, read(2, page_of_a_task(7), 0));
-    assert!(rt; matches!(link_at(&trace, 3), Link::First));
-    assert!(rt; matches!(link_at(&trace, 4), Link::After(1)));
-    assert!(rt; matches!(link_at(&trace, 5), Link::First));
+    add(&mut trace, written(1, OF_A_FILE, 4));
+    for _ in 0..ROUNDS {
+        add(&mut trace, read(1, FIRST, 5));
+        add(&mut trace, read(2, page_of_a_task(2), 0));
+        add(&mut trace, read(2, page_of_a_task(5), 9));
+        add(&mut trace, read(2, page_of_a_task(7), 0));
+        add(&mut trace, read(1, page_of_a_task(6), 0));
+        add(&mut trace, read(2, OF_A_FILE, 4));
+    }
+    Ok(trace)
+}
+
+// No contract says that a link is known. Where the links of one of these pages were not, the audit would walk back
+// through all entries for each of its reads, and this test would not end in a minute.
+#[test]
+fn links_lead_to_the_last_write_of_a_page(rt: HostRuntime) -> Result<(), Fail> {
+    let mut trace = many_reads(rt.alloc())?;
+    assert_eq!(rt; trace.len(), 960_008);
     assert_eq!(rt; audit(&trace), Ok(()));
+    add(&mut trace, read(2, page_of_a_task(7), 1));
+    assert_eq!(rt; audit(&trace), Err(First { entry: 960_009 }));
     Ok(())
 }
 
-// A task of the number of one that ended or was killed has no memory until it is asked for: it is known that it
-// begins with zeros, and no write of it is.
+// A task of the number of one that ended or was killed begins with zeros, and no memory was asked for its links.
 #[test]
-fn the_memory_of_links_goes_with_its_task(rt: HostRuntime) -> Result<(), Fail> {
-    let mut trace = opened(rt.alloc(), 10)?;
+fn a_number_of_a_task_that_ended_is_audited(rt: HostRuntime) -> Result<(), Fail> {
+    let mut trace = opened(rt.alloc(), 11)?;
     add(&mut trace, spawned(1));
     add(&mut trace, spawned(2));
+    add(&mut trace, written(1, FIRST, 7));
     add(&mut trace, entry(Event::Exit(TaskId(1)), Reply::Ok));
     let killed = Reply::KilledTask(TaskId(2));
     add(&mut trace, entry(Event::Relieve(Cause::Frame), killed));
     add(&mut trace, spawned(1));
     add(&mut trace, spawned(2));
-    add(&mut trace, written(1, FIRST, 5));
+    add(&mut trace, read(1, FIRST, 0));
     add(&mut trace, written(2, FIRST, 6));
-    add(&mut trace, read(1, FIRST, 5));
     add(&mut trace, read(2, FIRST, 6));
-    assert!(rt; matches!(link_at(&trace, 6), Link::First));
-    assert!(rt; matches!(link_at(&trace, 7), Link::First));
-    assert!(rt; matches!(link_at(&trace, 8), Link::Unknown));
-    assert!(rt; matches!(link_at(&trace, 9), Link::Unknown));
     assert_eq!(rt; audit(&trace), Ok(()));
+    add(&mut trace, read(1, FIRST, 7));
+    assert_eq!(rt; audit(&trace), Err(First { entry: 11 }));
     Ok(())
 }
 
@@ -441,7 +409,6 @@ fn a_task_without_memory_is_audited(rt: HostRuntime) -> Result<(), Fail> {
     add(&mut trace, forked(1, 3));
     add(&mut trace, written(3, SECOND, 6));
     add(&mut trace, read(3, FIRST, 5));
-    assert!(rt; matches!(link_at(&trace, 4), Link::Unknown));
     assert_eq!(rt; audit(&trace), Ok(()));
     add(&mut trace, read(3, SECOND, 5));
     assert_eq!(rt; audit(&trace), Err(First { entry: 6 }));
@@ -462,11 +429,4 @@ fn entries_come_back(rt: HostRuntime) -> Result<(), Fail> {
         None => assert!(rt; false),
     }
     Ok(())
-}
-
-// The numbers that the README tells.
-#[test]
-fn links_are_small(rt: HostRuntime) {
-    assert_eq!(rt; size_of::<Link>(), 8);
-    assert_eq!(rt; size_of::<Row>(), 32);
 }

@@ -1,12 +1,11 @@
+//! Generation lists, and plain vectors after the same calls.
+
 ghost use Rattle.std.specs.Prelude.{◌≡◌, length, nat_lt};
 
-use super::*;
-use crate::filled::Filled;
-use crate::numbers::Numbers;
+use lru_gen::{Gens, ListId, RingNode, list_of};
 use machine::id::{GroupId, PageId};
 use machine::record::Kind;
 use std::alloc::{AllocError, Global};
-use std::mem::size_of;
 use std::process::Abort;
 use std::test::Fail;
 
@@ -96,12 +95,6 @@ fn a_type_is_usable_while_it_has_a_page(rt: HostRuntime) -> Result<(), Fail> {
     assert!(rt; is_usable(&gens, root, Kind::Anon));
     assert!(rt; !is_usable(&gens, root, Kind::File));
     Ok(())
-}
-
-// What the crate's first lines tell, beside the eight lists of a group, of 8 bytes each.
-#[test]
-fn numbers_are_small(rt: HostRuntime) {
-    assert_eq!(rt; size_of::<Numbers>() + size_of::<Filled>(), 26);
 }
 
 const GROUPS: u32 = 3;
