@@ -23,7 +23,7 @@ const USED: &str =
     "frames 4\nswap 4\nwatermarks 2 3\ngroup /a\ntask 1 /a\n1 write 0 0 1\n1 write 1 0 1\n1 write 2 0 1\n";
 
 /// When the daemon is told to end.
-#[derive(Clone, Copy)]
+#[derive(Clone, Copy, PartialEq, Eq)]
 enum When {
     /// Before it begins.
     Before,
