@@ -3,8 +3,9 @@
 
 const part = (id) => document.getElementById(id);
 
-// The examples, which a file beside this one has.
+// The examples and the version, which a file beside this one has.
 const examples = typeof EXAMPLES === 'undefined' ? [] : EXAMPLES;
+if (typeof VERSION !== 'undefined') part('version').textContent = VERSION;
 
 // A link carries the script behind its #.
 const linked = () => {
