@@ -104,7 +104,7 @@ addEventListener('load', async () => {
   let cases = [];
   try {
     const machine = await Memcgrun.of(await (await fetch('../out/memcgrun.wasm')).arrayBuffer());
-    const given = await (await fetch('../out/cases.json')).json();
+    const given = await (await fetch('out/cases.json')).json();
     cases = given.cases;
     tryCases(machine, cases);
     await tryPage(given.examples);
