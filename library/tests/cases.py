@@ -50,7 +50,7 @@ class Case:
         return {(): "schedule", ("--strict",): "strict", ("--as-linux",): "schedule-as-linux"}.get(tuple(self.options)) if self.is_plain else None
 
 
-def cases(kind=Case):
+def cases():
     for path in sorted(glob.glob(os.path.join(TOP, "crates", "cases", "data", "*.cases"))):
         if os.path.basename(path) == "wrong_on_purpose.cases":
             continue
@@ -60,7 +60,7 @@ def cases(kind=Case):
                 if text.startswith("== "):
                     if case:
                         yield case
-                    case = kind(os.path.basename(path), text[3:])
+                    case = Case(os.path.basename(path), text[3:])
                 elif case:
                     case.take(text)
             if case:
