@@ -63,6 +63,19 @@ async function tryPage(examples) {
   const box = part('script');
   if (box.value.slice(box.selectionStart, box.selectionEnd) !== 'group /a b') fail('the faulty line is shown', box.selectionStart);
 
+  // A refused line is red, with its reason; the text of the answers is theirs alone.
+  part('labels').checked = true;
+  part('strict').checked = true;
+  part('script').value = 'group /a\ngroup /a/b\nrmdir /a\ncat /a memory.current\n';
+  part('strict').dispatchEvent(new Event('change'));
+  const refused = part('out').querySelector('.refused');
+  if (part('out').textContent !== '3 rmdir /a: error EBUSY\n') fail('answers up to the first refused line', part('out').textContent);
+  if (!refused || !(refused.dataset.reason || '').startsWith('/a has groups below it')) fail('the reason beside it', refused && refused.dataset.reason);
+  if (!part('said').textContent.startsWith('stopped at line 3, ')) fail('where it stopped', part('said').textContent);
+  part('strict').checked = false;
+  part('strict').dispatchEvent(new Event('change'));
+  if (part('out').textContent !== '3 rmdir /a: error EBUSY\n4 cat /a memory.current: 0\n') fail('answers after a refused line', part('out').textContent);
+
   // A link carries the script to another page.
   const script = '# ü#%&\ngroup /b\ntask 1 /b\n1 write 0 0 9\n1 read 0 0\n';
   part('script').value = script;
@@ -91,7 +104,7 @@ addEventListener('load', async () => {
   let cases = [];
   try {
     const machine = await Memcgrun.of(await (await fetch('../out/memcgrun.wasm')).arrayBuffer());
-    const given = await (await fetch('../out/cases.json')).json();
+    const given = await (await fetch('out/cases.json')).json();
     cases = given.cases;
     tryCases(machine, cases);
     await tryPage(given.examples);
