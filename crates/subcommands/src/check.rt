@@ -20,7 +20,7 @@ use std::io::{ErrorKind, Read, Write};
 use std::{io, str};
 
 /// What comes of a check.
-#[derive(Clone, Copy)]
+#[derive(Clone, Copy, PartialEq, Eq)]
 pub enum Checked {
     /// The script answers what it expects, and nothing else.
     Met,
