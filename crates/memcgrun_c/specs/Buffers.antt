@@ -5,6 +5,6 @@ use Rattle.std.specs.Prelude.{◌≡◌, ℕ, List, ◌++◌, length, take, drop
 abbrev pub Got : List ℕ → List ℕ → List ℕ → Type 0
 Got old new bytes = new ≡ take (length old) bytes ++ drop (length bytes) old
 
--- and the caller is told how many bytes there are. (Excludes the number of those that fit.)
+-- and this is the number of all these bytes. (Excludes the number of those that fit.)
 abbrev pub Gives : List ℕ → List ℕ → ℕ → List ℕ → Type 0
 Gives old new count bytes = Got old new bytes × (count ≡ length bytes)

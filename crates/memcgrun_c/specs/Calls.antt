@@ -46,12 +46,12 @@ WhyNot options file script why = (SCRIPT_BYTES < length script) × (why ≡ faul
 
 -- ---- the status
 
--- a faulty line is the script's fault; that memory was wanted to find it is not
+-- a faulty line is the script's fault; too little memory to read it is not
 abbrev pub status_of_line : ScriptFault → ℕ
 status_of_line (at.At number cause) = BAD_SCRIPT
 status_of_line at.Memory = NO_MEMORY
 
--- the status of a fault. (Excludes want of memory that is told as the script's fault, and the other way round.)
+-- the status of a fault. (Excludes that too little memory counts as the script's fault, and the other way round.)
 abbrev pub status_by : Fault → ℕ
 status_by (fault.Unreadable error) = NO_MEMORY
 status_by fault.TooLong = BAD_SCRIPT
@@ -61,16 +61,16 @@ status_by (fault.Memory wanted) = NO_MEMORY
 status_by (fault.Unwritable error) = NO_MEMORY
 status_by (fault.Refused told) = REFUSED
 
--- ---- what is told
+-- ---- the lines that say why
 
--- after what was said, the text has all lines of a fault that is the reason and has this status. (Excludes a text that is cut off, and a status without a text.)
+-- after what was said before, the text has all lines about a fault. That fault is the reason, and has this status. (Excludes a text that is cut off, and a status without a text.)
 pub record Tells (options : Options) (file script said text : List ℕ) (status : ℕ) : Type 0 where
   pub why : Fault
   pub reason : WhyNot options file script why
   pub has : status ≡ status_by why
   pub tells : AllTold (Appends (Some said) (Some text)) why
 
--- after what was said, it has the beginning of what is told of a fault that is the reason
+-- after what was said before, the text has the beginning of the lines about a fault that is the reason
 pub record TellsPart (options : Options) (file script said text : List ℕ) : Type 0 where
   pub why : Fault
   pub reason : WhyNot options file script why
