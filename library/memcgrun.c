@@ -1,8 +1,35 @@
 /* The calls of memcgrun.h over the proved functions: they read the options, and allocate the texts. No proof covers this file. */
 #include "memcgrun.h"
-#include "proved.h"
 
 #include <stdlib.h>
+
+/* ---- the proved functions. crates/memcgrun_c/src/lib.rt has their contracts
+ *
+ * No program calls them: what is declared here may change with any version. Their caller owes what no contract can ask of C: no pointer is null, even if its
+ * length is 0; no two of the memories overlap; each length is below 2^63; and each bool is 0 or 1. */
+
+struct memcgrun_proved_asked {
+    uint32_t turns;
+    bool labels;
+    bool strict;
+    bool as_linux;
+    bool explain;
+    bool quiet;
+    bool summary;
+};
+
+/* They answer MEMCGRUN_OK, MEMCGRUN_BAD_SCRIPT, MEMCGRUN_NO_MEMORY, MEMCGRUN_REFUSED or MEMCGRUN_DIFFERS. */
+uint8_t memcgrun_proved_schedule(const uint8_t *script, size_t script_len, const struct memcgrun_proved_asked *asked,
+                                 uint8_t *out, size_t out_len, uint8_t *err, size_t err_len,
+                                 struct memcgrun_lengths *lengths);
+uint8_t memcgrun_proved_chart(const uint8_t *script, size_t script_len, const struct memcgrun_proved_asked *asked, bool table,
+                              uint8_t *out, size_t out_len, uint8_t *err, size_t err_len,
+                              struct memcgrun_lengths *lengths);
+uint8_t memcgrun_proved_check(const uint8_t *script, size_t script_len, bool as_linux,
+                              uint8_t *out, size_t out_len, uint8_t *err, size_t err_len,
+                              struct memcgrun_lengths *lengths);
+
+/* ---- what the calls are given */
 
 /* The first run's room, which few scripts exceed. Pages of it that are not written to cost nothing. */
 enum { OUT_ROOM = 1 << 16, OUT_ROOM_EACH = 16, ERR_ROOM = 2048 };
