@@ -6,8 +6,8 @@ const fail = (what, found) => { if (faults.length < 20) faults.push(`${what}: ${
 const times = {};
 
 function tryCases(machine, cases) {
-  for (const { name, strict, asLinux, script, status, out, err } of cases) {
-    const found = machine.schedule(script, { strict, asLinux });
+  for (const { name, asked, script, status, out, err } of cases) {
+    const found = machine.schedule(script, asked);
     if (found.status !== status || found.out !== out || found.err !== err) fail(name, found);
   }
 }
