@@ -33,39 +33,49 @@ function showLine(line) {
   box.scrollTop = Math.max(0, (box.scrollHeight / lines.length) * (line - 4));
 }
 
-// Why lines were refused, by their numbers: what stands behind `script:7: `.
-function reasonsOf(err) {
-  const reasons = new Map();
+// What is said of lines, by their numbers: what comes after `script:7: `.
+function saidOf(err) {
+  const said = new Map();
   for (const line of err.split('\n')) {
     const told = /^script:(\d+): (.*)$/.exec(line);
-    if (told) reasons.set(told[1], told[2]);
+    if (told) said.set(told[1], [...(said.get(told[1]) || []), told[2]]);
   }
-  return reasons;
+  return said;
 }
 
-// Shows the answers, and in red those that refuse a line, each with its reason where one is told. Their text is that of the answers alone.
+// Of what is said of an answer's line, why that line was refused or that task was killed. Its words and the answer itself are not in it.
+function reasonOf(said, [, number, words, answer]) {
+  const refusal = answer.split(' ').pop();
+  for (const text of said.get(number) || []) {
+    const rest = text.startsWith(`${words}: `) ? text.slice(words.length + 2) : text;
+    for (const start of [`${refusal}, `, `${answer}: `]) {
+      if (rest.startsWith(start)) return rest.slice(start.length);
+    }
+  }
+  return '';
+}
+
+// Shows the answers, those that refuse a line in red, and below an answer its reason where one is told. As a text they are the answers alone.
 function showAnswers(out, err) {
-  const reasons = reasonsOf(err);
+  const said = saidOf(err);
   const lines = out.split('\n');
   const shown = [];
   let plain = '';
   lines.forEach((line, at) => {
-    const end = at < lines.length - 1 ? '\n' : '';
-    const refused = /^(?:(\d+) (.*): )?(?:error|\d+) [A-Z][A-Za-z]+$/.exec(line);
-    if (!refused) {
-      plain += line + end;
+    const text = at < lines.length - 1 ? `${line}\n` : line;
+    const labelled = said.size ? /^(\d+) (.*): (.*)$/.exec(line) : null;
+    const reason = labelled ? reasonOf(said, labelled) : '';
+    const isRefused = /(?:^|: )(?:error|\d+) [A-Z][A-Za-z]+$/.test(line);
+    if (!reason && !isRefused) {
+      plain += text;
       return;
     }
-    shown.push(plain);
-    plain = '';
     const mark = document.createElement('span');
-    mark.className = 'refused';
-    mark.textContent = line + end;
-    const [, number, words] = refused;
-    const reason = reasons.get(number);
-    // What stands in the answer already is not said twice: its words, and the name of the error.
-    if (reason) mark.dataset.reason = (reason.startsWith(`${words}: `) ? reason.slice(words.length + 2) : reason).replace(/^[A-Z][A-Za-z]+, /, '');
-    shown.push(mark);
+    mark.classList.toggle('refused', isRefused);
+    mark.textContent = text;
+    if (reason) mark.dataset.reason = reason;
+    shown.push(plain, mark);
+    plain = '';
   });
   part('out').replaceChildren(...shown, plain);
 }
