@@ -1,4 +1,5 @@
 """The cases of crates/cases/data whose options the library has, and what each has to give in a call."""
+import copy
 import glob
 import os
 
@@ -12,11 +13,13 @@ class Case:
     def __init__(self, where, name):
         self.where, self.name = where, name
         self.script, self.prints, self.said, self.options = [], [], [], []
-        self.fails, self.is_known, self.at = False, True, "script"
+        self.fails, self.is_known, self.at, self.as_linux_too = False, True, "script", False
 
     def take(self, text):
         if text.startswith("-- with "):
             self.options = text[8:].split()
+        elif text == "-- as linux too":
+            self.as_linux_too = True
         elif text == "-- prints":
             self.at = "prints"
         elif text.startswith(("-- says ", "-- faults ")):
@@ -59,7 +62,21 @@ class Case:
         return ",".join(["schedule", *self.options]) if self.is_known and OPTIONS.issuperset(self.options) else None
 
 
+def as_linux(case):
+    """The same case as it is run with --as-linux."""
+    other = copy.copy(case)
+    other.options = [*case.options, "--as-linux"]
+    return other
+
+
 def cases():
+    for case in written_cases():
+        yield case
+        if case.as_linux_too:
+            yield as_linux(case)
+
+
+def written_cases():
     for path in sorted(glob.glob(os.path.join(TOP, "crates", "cases", "data", "*.cases"))):
         if os.path.basename(path) == "wrong_on_purpose.cases":
             continue
