@@ -97,11 +97,13 @@ function run(machine) {
   const start = performance.now();
   try {
     const asLinux = part('as_linux').checked;
-    const { status, out, err } = machine.schedule(script, { labels: part('labels').checked, strict: part('strict').checked, asLinux });
+    const [labels, explain, strict] = ['labels', 'explain', 'strict'].map((option) => part(option).checked);
+    const { status, out, err } = machine.schedule(script, { labels, explain, strict, asLinux });
     const took = performance.now() - start;
     const line = lineOf(err);
     showAnswers(out, err);
-    part('err').textContent = err;
+    // Explanations of a run to its end are below their lines, if these have numbers.
+    part('err').textContent = status === 0 && labels ? '' : err;
     part('said').textContent = `${status === 0 ? 'ran to the end' : line ? `stopped at line ${line}` : 'stopped'}, ${took.toFixed(1)} ms`;
     showChart(machine.chart(script, { asLinux }));
     if (status !== 0) showLine(line);
@@ -160,7 +162,7 @@ async function start() {
   }
   part('run').disabled = false;
   part('run').addEventListener('click', () => run(machine));
-  for (const option of ['labels', 'strict', 'as_linux']) part(option).addEventListener('change', () => run(machine));
+  for (const option of ['labels', 'explain', 'strict', 'as_linux']) part(option).addEventListener('change', () => run(machine));
   part('example').addEventListener('change', () => {
     const example = named(part('example').value);
     if (!example) return;

@@ -6,8 +6,8 @@ const fail = (what, found) => { if (faults.length < 20) faults.push(`${what}: ${
 const times = {};
 
 function tryCases(machine, cases) {
-  for (const { name, strict, asLinux, script, status, out, err } of cases) {
-    const found = machine.schedule(script, { strict, asLinux });
+  for (const { name, asked, script, status, out, err } of cases) {
+    const found = machine.schedule(script, asked);
     if (found.status !== status || found.out !== out || found.err !== err) fail(name, found);
   }
 }
@@ -75,6 +75,15 @@ async function tryPage(examples) {
   part('strict').checked = false;
   part('strict').dispatchEvent(new Event('change'));
   if (part('out').textContent !== '3 rmdir /a: error EBUSY\n4 cat /a memory.current: 0\n') fail('answers after a refused line', part('out').textContent);
+
+  // With explanations a refused line has its reason, and a kill too.
+  part('explain').checked = true;
+  part('script').value = 'group /a\nset /a memory.max 4096\ngroup /a/b\nrmdir /a\ntask 1 /a/b\n1 write 0 0 1\n1 write 1 0 1\n';
+  part('explain').dispatchEvent(new Event('change'));
+  const told = [...part('out').querySelectorAll('[data-reason]')].map((line) => line.textContent.trimEnd());
+  if (told.join() !== '4 rmdir /a: error EBUSY,7 1 write 1 0 1: killed 1') fail('lines with reasons', told);
+  if (part('err').textContent) fail('reasons beside their lines alone', part('err').textContent);
+  part('explain').checked = false;
 
   // A link carries the script to another page.
   const script = '# ü#%&\ngroup /b\ntask 1 /b\n1 write 0 0 9\n1 read 0 0\n';
