@@ -3,9 +3,9 @@
 use crate::case::{faults, numbered, prints};
 use std::test::Fail;
 
-// The limit is set in the first turn. Then each kill takes one, and so does finding that there is room. An answer in the last turn counts.
+// The limit is set in the first turn. Then each kill takes one, and so does finding that there is room.
 #[test]
-fn a_limit_that_is_lowered_stops_after_1000_turns(rt: HostRuntime) -> Result<(), Fail> {
+fn an_answer_in_the_last_turn_counts(rt: HostRuntime) -> Result<(), Fail> {
     let alloc = rt.alloc();
     let tasks = numbered(alloc, "task ", 1..=998, " /a")?;
     let writes = numbered(alloc, "", 1..=998, " write 0 0 1")?;
@@ -20,15 +20,19 @@ cat /a memory.current
     let killed = numbered(alloc, "killed ", 1..=998, "")?;
     let printed = format!(in alloc; "{killed}0\n")?;
     prints(&rt, "998 kills and two turns more", &script, &printed);
+    Ok(())
+}
+
+#[test]
+fn a_limit_that_is_lowered_stops_after_1000_turns(rt: HostRuntime) -> Result<(), Fail> {
+    let alloc = rt.alloc();
+    let tasks = numbered(alloc, "task ", 1..=1000, " /a")?;
+    let writes = numbered(alloc, "", 1..=1000, " write 0 0 1")?;
     let script = format!(in alloc;
         "\
 frames 1000
 group /a
-{tasks}task 999 /a
-task 1000 /a
-{writes}999 write 0 0 1
-1000 write 0 0 1
-set /a memory.max 0
+{tasks}{writes}set /a memory.max 0
 begin cat /a memory.max
 finish control
 step shell
@@ -36,8 +40,9 @@ cat /a memory.current
 cat /a memory.current
 "
     )?;
+    let killed = numbered(alloc, "killed ", 1..=999, "")?;
     let printed = format!(in alloc;
-        "{killed}killed 999\nerror turn limit\n0\nkilled 1000\nerror Underway\n0\n"
+        "{killed}error turn limit\n0\nkilled 1000\nerror Underway\n0\n"
     )?;
     prints(
         &rt,
