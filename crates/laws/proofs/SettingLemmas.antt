@@ -1,8 +1,8 @@
 -- Which events change what is set of a group.
-use Rattle.std.proofs.Common.{◌≡◌, inl, inr, ℕ, zero, suc, ◌==◌, ◌||◌, not, Bool, true, false, List, [], ◌∷◌, ◌++◌, length, Option, Some, None, refl, sym, ap, ◌∙◌, subst, arith, length-append, length-set}
+use Rattle.std.proofs.Common.{◌≡◌, inl, inr, ℕ, zero, suc, ◌<◌, ◌==◌, ◌||◌, not, Bool, true, false, List, [], ◌∷◌, ◌++◌, length, Option, Some, None, refl, sym, ap, ◌∙◌, subst, arith, length-append, length-set}
 use Rattle.std.specs.Prelude.{◌⊎◌, slice_index_or, slice_set}
 use Rattle.std.proofs.lemmas.Bool.{cases_lt}
-use Rattle.std.proofs.lemmas.List.{get_or_append_left}
+use Rattle.std.proofs.lemmas.List.{get_or_append_left, get_or-set_same}
 use Rattle.std.proofs.Math.ListN.{get_or-eq_default}
 use Rattle.machine.specs.declared.amount.Amount.{Amount}
 use Rattle.machine.specs.declared.entry.Entry.{Entry}
@@ -331,8 +331,41 @@ begins before after (event.Rmdir h) answer step all g none live = absurd step
 begins before after what answer step all g none live =
     unlike (is_live before.tree g) (sym (ap (λ (tree : List Node). is_live tree g) (step_tree before what answer after step)) ∙ live) none
 
+-- ---- a setting that is done
+
+has-set : (s : State) (h : ℕ) (set : Setting) → h < length s.limits → h < length s.flags → HasSetting (with_setting s h set) h set
+has-set s h (setting.Max amount) limits flags = ap (λ (l : Limits). l.max) (get_or-set_same s.limits h (record (limits_at s.limits h) { max = amount }) no_limits limits)
+has-set s h (setting.Guard guard.Min amount) limits flags = ap (λ (l : Limits). l.min) (get_or-set_same s.limits h (with_guard (limits_at s.limits h) guard.Min amount) no_limits limits)
+has-set s h (setting.Guard guard.Low amount) limits flags = ap (λ (l : Limits). l.low) (get_or-set_same s.limits h (with_guard (limits_at s.limits h) guard.Low amount) no_limits limits)
+has-set s h (setting.OomGroup flag) limits flags = get_or-set_same s.flags h flag Single flags
+
+-- whose setting is not refused stands in the list of groups
+set-there : (s : State) (h : ℕ) → file_refusal s.tree h ≡ None → h < length s.tree
+set-there s h none =
+    elim (cases_lt h (length s.tree)) [
+      | inl there ↦ there
+      | inr beyond ↦ unlike (is_live s.tree h) (by_tests (is_live s.tree h) (h == 0) none) (ap (λ (n : Node). n.live) (get_or-eq_default s.tree no_node beyond))
+    ]
+  where
+    by_tests : (live is_root : Bool) → first_cause (not live || is_root) NoEntry None ≡ None → live ≡ true
+    by_tests true is_root e = refl
+    by_tests false is_root e = cc
+
+set-done : (before after : State) (what : Event) (answer : Reply) → Step before what answer after → AreAll before → refusal before what ≡ None → (g : ℕ) (it : Setting) → SetsAt what g it → HasSetting after g it
+set-done before after (event.Set h set) reply.Ok step all none g it sets =
+    let there = set-there before h.0 none in
+    let limits = all.limits in
+    let flags = all.flags in
+    subst (λ (s : State). HasSetting s g it) (sym step)
+    (subst (λ (x : Setting). HasSetting (with_setting before h.0 set) g x) sets.1
+    (subst (λ (n : ℕ). HasSetting (with_setting before h.0 set) n set) sets.0
+    (has-set before h.0 set (omega (arith, there, limits)) (omega (arith, there, flags)))))
+set-done before after (event.Set h set) answer step all none g it sets = absurd step
+set-done before after what answer step all none g it sets = absurd sets
+
 pub only_sets_change_settings : OnlySetsChangeSettings
 only_sets_change_settings before after what answer step = (
   has-step before after what answer step,
   λ opening history g legal. begins before after what answer step (legal-all opening history before legal) g,
+  λ opening history g it legal none. set-done before after what answer step (legal-all opening history before legal) none g it,
 )

@@ -44,6 +44,7 @@ use Rattle.machine.specs.Aging.{is_marked, has_mark}
 use Rattle.machine.specs.Eviction.{old_pages}
 use Rattle.machine.specs.Lists.{HeldLists, Youngest, served, PicksOf, ListsHeld, AreGenerations, generation_for, GoesOn, shown_at, is_in_bits, MergesMarks, with_group, RemovesLists}
 use Rattle.machine.specs.Victim.{flag_at, is_live_under, is_candidate, is_flagged}
+use Rattle.machine.specs.Refusals.{refusal}
 use Rattle.machine.specs.Step.{Step}
 use Rattle.machine.specs.Call.{Past, Caller, Called, AreAlike}
 use Rattle.machine.specs.Legal.{Legal}
@@ -608,13 +609,14 @@ SetsAt what g it = ⊥
 abbrev pub HasDefaults : State → ℕ → Type 0
 HasDefaults s g = (limits_at s.limits g ≡ no_limits) × (flag_at s.flags g ≡ Single)
 
--- each setting that a group has after a step it had before, or the step set just this at the group. A removed group's number keeps its own. And in whatever state a legal history ends, a group that comes to be
--- begins with the defaults. (Excludes a setting that changes with a kill, a move, a removal, another group's setting or another setting of the group, and a new group that has what an earlier one of its path had.)
+-- each setting that a group has after a step it had before, or the step set just this at the group. A removed group's number keeps its own. In whatever state a legal history ends, a group that comes to be
+-- begins with the defaults, and a setting that nothing refuses is done. (Excludes a setting that changes with a kill, a move, a removal, another group's setting or another setting of the group, and a new group that has what an earlier one of its path had.)
 abbrev pub OnlySetsChangeSettings : Type 0
 OnlySetsChangeSettings =
     (before after : State) (what : Event) (answer : Reply) → Step before what answer after
     → ((g : ℕ) (it : Setting) → HasSetting after g it → HasSetting before g it ⊎ SetsAt what g it)
     × ((opening : Opening) (history : List Entry) (g : ℕ) → Legal opening history before → is_live before.tree g ≡ false → is_live after.tree g ≡ true → HasDefaults after g)
+    × ((opening : Opening) (history : List Entry) (g : ℕ) (it : Setting) → Legal opening history before → refusal before what ≡ None → SetsAt what g it → HasSetting after g it)
 
 -- what a call answers is settled by the past, the caller and the event: two answers, neither of them for want of memory, say the same, but for the numbers of new
 -- tickets and for the byte that a read gives, which the history says. (Excludes definitions that leave a reply to whoever carries them out.)

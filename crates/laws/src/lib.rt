@@ -354,7 +354,7 @@ pub fn root_is_never_flagged()
 {}
 
 /// A group's `memory.max`, `memory.min`, `memory.low` and `memory.oom.group` are what they were, or the event sets the one
-/// that is another now. A new group has none of them.
+/// that is another now. A new group has none of them. A setting that nothing refuses is done.
 pub fn only_sets_change_settings()
     ensures { OnlySetsChangeSettings }
 {}
