@@ -3,8 +3,6 @@
 
 mod mark_set;
 mod promotion;
-#[cfg(test)]
-mod tests;
 
 pub use mark_set::MarkSet;
 pub use promotion::{age, to_youngest};

@@ -14,5 +14,3 @@ mod device;
 mod memory;
 mod shared;
 mod slots;
-#[cfg(test)]
-mod tests;

@@ -31,9 +31,9 @@ use machine::bytes::PageBytes;
 use machine::config::{Config, FileList, Placement, Watermarks};
 use machine::entry::Entry;
 use machine::event::Event as PlainEvent;
-use machine::id::{GroupId, TicketId, WorkerId};
+use machine::id::{GroupId, TaskId, TicketId, WorkerId};
 use machine::limit::MOST_PASSES;
-use machine::record::Direction;
+use machine::record::{Direction, Life};
 use machine::refusal::Refusal;
 use machine::reply::Reply as PlainReply;
 use machine::text::Text;
@@ -338,7 +338,14 @@ impl Book {
             Ok(reply) => {
                 self.state.is_joined();
                 let said = plain(&reply);
-                append(&mut self.trace, &mut self.counts, worker, event, said);
+                append(
+                    &self.state,
+                    &mut self.trace,
+                    &mut self.counts,
+                    worker,
+                    event,
+                    said,
+                );
                 hand_out(&self.state, &mut self.takers, worker, entry, reply)
             }
         }
@@ -384,6 +391,7 @@ impl Book {
         self.state.is_joined();
         let event = in_ended(end, number, bytes);
         append(
+            &self.state,
             &mut self.trace,
             &mut self.counts,
             worker,
@@ -409,6 +417,7 @@ impl Book {
         self.state.settle_out(ticket, end);
         self.state.is_joined();
         append(
+            &self.state,
             &mut self.trace,
             &mut self.counts,
             worker,
@@ -505,6 +514,7 @@ impl Book {
 
 /// Adds the worker's next entry at the end, where there is room for it.
 fn append(
+    state: &State,
     trace: &mut Trace,
     counts: &mut Vec<u64>,
     worker: WorkerId,
@@ -520,12 +530,39 @@ fn append(
 {
     let count = counts[worker.0 as usize] + 1;
     counts[worker.0 as usize] = count;
+    release_killed(state, trace, &reply);
     trace.push(Entry {
         worker,
         count,
         event,
         reply,
     });
+}
+
+/// The links of all tasks that died with their group give their memory back. The entry names the victim alone.
+fn release_killed(state: &State, trace: &mut Trace, reply: &PlainReply)
+    ensures { trace.new ≡ trace.old }
+{
+    if let PlainReply::KilledAll { .. } = reply {
+        release_ended(state, trace);
+    }
+}
+
+fn release_ended(state: &State, trace: &mut Trace)
+    ensures { trace.new ≡ trace.old }
+{
+    for number in 0..state.spaces().slots() {
+        release_if_ended(state, trace, TaskId(number as u32));
+    }
+}
+
+fn release_if_ended(state: &State, trace: &mut Trace, task: TaskId)
+    ensures { trace.new ≡ trace.old }
+{
+    match state.spaces().task(task) {
+        Some(known) if known.life == Life::Live => {}
+        _ => trace.release(task),
+    }
 }
 
 /// How many pages each file has.

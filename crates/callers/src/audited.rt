@@ -14,7 +14,7 @@ use std::test::Fail;
 use trace::{First, audit};
 
 /// What a device does to a byte that it was asked for.
-#[derive(Clone, Copy)]
+#[derive(Clone, Copy, PartialEq, Eq)]
 enum Lie {
     None,
     /// Each byte is one more at each read.

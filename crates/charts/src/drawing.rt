@@ -29,7 +29,7 @@ const WIDE: u64 = 2900;
 const HIGH: u64 = 220;
 
 /// What is drawn of a group.
-#[derive(Clone, Copy)]
+#[derive(Clone, Copy, PartialEq, Eq)]
 enum Curve {
     Usage,
     Max,

@@ -85,7 +85,7 @@ impl Sink for Vec<Reply> {
 }
 
 /// Why a run was cut short.
-#[derive(Clone, Copy)]
+#[derive(Clone, Copy, PartialEq, Eq)]
 pub enum Cut {
     /// Memory was wanted, for what is no command's answer, and refused.
     NoMemory,

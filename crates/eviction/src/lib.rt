@@ -4,8 +4,6 @@
 mod choice;
 mod found;
 mod search;
-#[cfg(test)]
-mod tests;
 
 pub use choice::pick;
 pub use found::Pick;

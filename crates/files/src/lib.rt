@@ -11,8 +11,6 @@ ghost use Rattle.files.specs.Files.{home_in};
 pub use config::{blocks_behind, blocks_for};
 
 mod config;
-#[cfg(test)]
-mod tests;
 
 use machine::config::FileList;
 use std::alloc::{AllocError, Global};

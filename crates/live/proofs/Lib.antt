@@ -2,4 +2,10 @@ pub mod ShareLemmas
 pub mod ResultLemmas
 pub mod RowLemmas
 pub mod RestLemmas
-pub mod UnreadLemmas
+mod ViewLemmas
+mod ToldLemmas
+mod RuleLemmas
+mod ActLemmas
+mod SharedLemmas
+mod EndLemmas
+mod GivenLemmas

@@ -1,7 +1,6 @@
 -- Where each pass keeps what its worker was told, all entries are theirs and none has a share, no transfer is in flight.
 use Rattle.std.proofs.Common.{◌≡◌, ◌≢◌, ℕ, suc, ◌≤◌, Bool, true, false, cond, not, List, [], ◌∷◌, map, length, get_or, reverse, sym, refl, ap, ◌∙◌, subst, arith, ne_eqb}
 use Rattle.std.specs.List.{All, filter, sum_by}
-use Rattle.std.specs.Prelude.{MatchBool}
 use Rattle.std.proofs.lemmas.Bool.{true≢false, not-false, eqb-true, ltb-false}
 use Rattle.std.proofs.lemmas.List.Elements.{All-head, All-tail, All-weaker}
 use Rattle.std.proofs.lemmas.List.Filters.{length-filter_both, sum_by-filter_both}
@@ -186,14 +185,3 @@ at_rest entries passes matches all none before =
     let begins-back = sum-reverse entry_begins entries in
     let ends-back = sum-reverse entry_ends entries in
     omega arith
-
-pub at_rest-if : (yes : Bool) (entries : List Entry) (passes : List PassOf) → MatchBool yes (Matches entries passes) (Matches entries passes → ⊥) → length entries ≡ sum_by (λ (pass : PassOf). count_of pass.kept) passes
-    → All (λ (pass : PassOf). has_share pass.kept ≡ false) passes → transfers_ended (reverse entries) ≤ transfers_begun (reverse entries) → yes ≡ true → transfers_begun (reverse entries) ≡ transfers_ended (reverse entries)
-at_rest-if true entries passes matches all none before is = at_rest entries passes matches all none before
-at_rest-if false entries passes matches all none before is = absurd (true≢false (sym is))
-
--- the same of equal entries and equal passes
-pub matches-of : (b : Bool) (entries other : List Entry) (passes same : List PassOf) → entries ≡ other → passes ≡ same → MatchBool b (Matches entries passes) (Matches entries passes → ⊥) → MatchBool b (Matches other same) (Matches other same → ⊥)
-matches-of b entries other passes same e p matches =
-    let here = subst (λ (es : List Entry). MatchBool b (Matches es passes) (Matches es passes → ⊥)) e matches in
-    subst (λ (ps : List PassOf). MatchBool b (Matches other ps) (Matches other ps → ⊥)) p here

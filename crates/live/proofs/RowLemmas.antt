@@ -1,5 +1,5 @@
 -- Rows of turns grow by a turn.
-use Rattle.std.proofs.Common.{◌≡◌, ℕ, suc, List, [], ◌∷◌, ◌++◌, Ok, Err, refl, sym, ap, ◌∙◌, append_assoc, append-nil, subst, inl, inr, false, ◌+◌, ◌<◌, length, take, get_or, Option, map}
+use Rattle.std.proofs.Common.{◌≡◌, ℕ, suc, List, [], ◌∷◌, ◌++◌, refl, sym, ap, ◌∙◌, append_assoc, append-nil, subst, inl, inr, false, ◌+◌, ◌<◌, length, take, get_or, map}
 use Rattle.std.proofs.lemmas.List.{take_more}
 use Rattle.machine.specs.declared.config.Watermarks.{Watermarks}
 use Rattle.machine.specs.declared.command.Actor.{Actor}
@@ -10,10 +10,10 @@ use Rattle.book.specs.declared.kept.Kept.{Kept}
 use Rattle.book.specs.Passes.{PassOf, find_of, keeping}
 use Rattle.turns.specs.declared.turn.Stage.{Stage}
 use Rattle.turns.specs.declared.turn.Transition.{Transition}
-use Rattle.turns.specs.Turns.{Judged, paths_of, judged_with, judged, answer_by}
+use Rattle.turns.specs.Turns.{Judged, paths_of, judged, answer_by}
 use Rattle.turns.specs.Finds.{looking}
 use Rattle.turns.specs.Tickets.{holds}
-use Rattle.live.specs.Works.{GoesOn, Link, Leads, Closes, Answered, JudgedRuns, Begins, Does, Works, Worked, Repeats, Repeated, no_memory, finds_of}
+use Rattle.live.specs.Works.{GoesOn, JudgedRuns, Does, Works, Worked, Repeated, no_memory, finds_of}
 use Rattle.live.specs.Runs.{Made, Linked, Closed, Under, Ran, Looked, Judging, Did, Done}
 
 -- what was added first and then
@@ -50,7 +50,7 @@ finds-length : (tree : List Node) (paths : List (List ℕ)) → length (map (fin
 finds-length tree [] = refl
 finds-length tree (path ∷ paths) = ap suc (finds-length tree paths)
 
-looking-kept : (tree : List Node) (paths : List (List ℕ)) (pass : PassOf) → (looking tree paths pass).kept ≡ pass.kept ++ finds_of paths (map (find_group tree) paths)
+pub looking-kept : (tree : List Node) (paths : List (List ℕ)) (pass : PassOf) → (looking tree paths pass).kept ≡ pass.kept ++ finds_of paths (map (find_group tree) paths)
 looking-kept tree [] pass = sym (append-nil pass.kept)
 looking-kept tree (path ∷ paths) pass =
     let here = find_of path (find_group tree path) in

@@ -1,29 +1,22 @@
--- What a call adds to a pass's share and to the trace.
-use Rattle.std.proofs.Common.{◌≡◌, ℕ, ◌+◌, Bool, true, false, List, [], ◌∷◌, ◌++◌, length, length-append, refl, sym, ap, ◌∙◌, arith, subst, Option, Some, None}
-use Rattle.std.specs.Prelude.{MatchBool, count_by}
+-- What a call adds to a pass's share.
+use Rattle.std.proofs.Common.{◌≡◌, ℕ, ◌+◌, Bool, true, false, List, [], ◌∷◌, ◌++◌, refl, sym, ap, ◌∙◌, arith, subst, Option}
+use Rattle.std.specs.Prelude.{count_by}
 use Rattle.std.proofs.lemmas.List.Sums.{sum_by-append, sum_by-cons}
 use Rattle.machine.specs.declared.event.Event.{Event as Plain_event}
 use Rattle.machine.specs.declared.event.Event.TheVariants as plain
 use Rattle.machine.specs.declared.reply.Reply.{Reply as Plain_reply}
 use Rattle.machine.specs.declared.reply.Reply.TheVariants as said
-use Rattle.machine.specs.declared.refusal.Refusal.{Refusal}
-use Rattle.machine.specs.declared.refusal.Refusal.TheVariants.{Stranger, TraceFull}
-use Rattle.machine.specs.Refusals.{refusal}
-use Rattle.machine.specs.State.{Opening}
-use Rattle.machine.specs.Transfers.{begins_transfer, ends_transfer}
-use Rattle.machine.specs.Call.{Past, Caller, entry_of, Answers, Refuses, Answered, JudgedBy, Called, knows_pass, is_trace_full, leaves_entry}
-use Rattle.machine.specs.declared.entry.Entry.{Entry}
-use Rattle.machine.proofs.EntryLemmas.{entries-one}
-use Rattle.legal.proofs.OpeningLemmas.{called_opening}
+use Rattle.machine.specs.declared.refusal.Refusal.TheVariants.{Stranger}
+use Rattle.machine.specs.Transfers.{ends_transfer}
 use Rattle.book.specs.declared.event.Event.{Event}
 use Rattle.book.specs.declared.event.Event.TheVariants as event
 use Rattle.book.specs.declared.event.Reply.{Reply}
 use Rattle.book.specs.declared.event.Reply.TheVariants as reply
 use Rattle.book.specs.declared.kept.Asked.{Asked}
 use Rattle.book.specs.declared.kept.Kept.{Kept}
-use Rattle.book.specs.declared.kept.Kept.TheVariants.{Call, Find}
+use Rattle.book.specs.declared.kept.Kept.TheVariants.{Call}
 use Rattle.book.specs.Events.{event_of, reply_of}
-use Rattle.book.specs.Passes.{PassOf, asked_of, call_of, find_of, is_entry, count_of, may_ask, keeping, CalledWith}
+use Rattle.book.specs.Passes.{asked_of, call_of, find_of}
 use Rattle.book.specs.Replies.{Replies, IsInReply, IsOutReply}
 use Rattle.turns.specs.Tickets.{is_ending, gives_ticket}
 use Rattle.turns.specs.Turns.{Judged, paths_of}
@@ -139,12 +132,6 @@ finds-none f none (path ∷ paths) (g ∷ found) =
     let both = more f (find_of path g ∷ []) (finds_of paths found) in
     omega (arith, here, rest, both)
 
-pub looked-count : (who : Actor) (what : Command) (old new : List Kept) (result : Judged) → Looked who what old new result → count_of new ≡ count_of old
-looked-count who what old new result h =
-    let none = finds-none is_entry (λ path g. refl) (paths_of who what) h.found in
-    let all = ap count_of h.keeps ∙ more is_entry old (finds_of (paths_of who what) h.found) in
-    omega (arith, none, all)
-
 pub carries-looked : (who : Actor) (what : Command) (old new : List Kept) (result : Judged) → Looked who what old new result → Carries old 0 new 0
 carries-looked who what old new result h =
     let added = finds_of (paths_of who what) h.found in
@@ -164,95 +151,3 @@ carries-same a b i same = subst (λ (l : List Kept). Carries a i l i) (sym same)
 
 pub keeps-share : (old new : List Kept) → Carries old 0 new 0 → KeepsShare old new
 keeps-share old new h same = omega (arith, h.balance, same)
-
--- ---- the trace
-
-abbrev GrownBy : Past → Plain_event → Past → Plain_reply → Type 0
-GrownBy old what new answer = length new.history ≡ length old.history + one_if (is_entry (call_of what answer))
-
-module _ (old : Past) (pass : PassOf) (what : Plain_event) (leaves : leaves_entry what ≡ true) (new : Past) where
-  refused-grown : (answer : Plain_reply) (why : Refusal) → Refuses old why answer new → GrownBy old what new answer
-  refused-grown answer why h =
-      let none : one_if (is_entry (call_of what answer)) ≡ 0 = ap (λ (a : Plain_reply). one_if (is_entry (call_of what a))) h.0 in
-      let same = ap (λ (p : Past). length p.history) h.1 in
-      omega (arith, none, same)
-
-  served-grown : (answer : Plain_reply) → is_entry (call_of what answer) ≡ true → Answers old pass.caller what answer new → GrownBy old what new answer
-  served-grown answer entry h =
-      let one = ap one_if entry in
-      let all = ap length (h.history ∙ ap (λ (es : List Entry). es ++ old.history) (entries-one pass.caller old.history what answer leaves)) in
-      omega (arith, one, all)
-
-  answered-grown : (answer : Plain_reply) → Answered old pass.caller what answer new → GrownBy old what new answer
-  answered-grown (said.Refused why) h = refused-grown (said.Refused why) why (refl, h.2)
-  answered-grown answer h = served-grown answer refl h
-
-  judged-grown : (answer : Plain_reply) (why : Option Refusal) → JudgedBy old pass.caller what why answer new → GrownBy old what new answer
-  judged-grown answer (Some why) h = refused-grown answer why h
-  judged-grown answer None h = by_room (is_trace_full old what) h
-    where
-      by_room : (b : Bool) → MatchBool b (Refuses old TraceFull answer new) (Answered old pass.caller what answer new) → GrownBy old what new answer
-      by_room true k = refused-grown answer TraceFull k
-      by_room false k = answered-grown answer k
-
-  called-grown : (answer : Plain_reply) → Called old pass.caller what answer new → GrownBy old what new answer
-  called-grown answer h = by_ticket (knows_pass old.state old.history pass.caller what) h
-    where
-      by_ticket : (b : Bool) → MatchBool b (JudgedBy old pass.caller what (refusal old.state what) answer new) (Refuses old Stranger answer new) → GrownBy old what new answer
-      by_ticket true k = judged-grown answer (refusal old.state what) k
-      by_ticket false k = refused-grown answer Stranger k
-
-  -- the trace is one longer where the answer stands in it
-  pub grown : (answer : Plain_reply) → CalledWith old pass what answer new → length new.history ≡ length old.history + one_if (is_entry (call_of what answer))
-  grown answer h = by_pass (may_ask old pass what) h
-    where
-      by_pass : (b : Bool) → MatchBool b (Called old pass.caller what answer new) (Refuses old Stranger answer new) → GrownBy old what new answer
-      by_pass true k = called-grown answer k
-      by_pass false k = refused-grown answer Stranger k
-
-  -- the opening stays
-  pub opened : (answer : Plain_reply) → CalledWith old pass what answer new → new.state.opening ≡ old.state.opening
-  opened answer h = by_pass (may_ask old pass what) h
-    where
-      by_pass : (b : Bool) → MatchBool b (Called old pass.caller what answer new) (Refuses old Stranger answer new) → new.state.opening ≡ old.state.opening
-      by_pass true k = called_opening old new pass.caller what answer k
-      by_pass false k = ap (λ (p : Past). p.state.opening) k.1
-
--- ---- the count of a pass
-
--- it rises by one, where it does not stay
-pub count-rises : (pass next : PassOf) (k : Kept) → next ≡ keeping pass k → (count_of next.kept ≡ count_of pass.kept → ⊥) → count_of next.kept ≡ count_of pass.kept + 1
-count-rises pass next k kept apart = by (is_entry k) refl
-  where
-    all : count_of next.kept ≡ count_of pass.kept + one_if (is_entry k)
-    all = ap (λ (p : PassOf). count_of p.kept) kept ∙ one-more is_entry pass.kept k
-
-    by : (b : Bool) → is_entry k ≡ b → count_of next.kept ≡ count_of pass.kept + 1
-    by true is = let one : one_if (is_entry k) ≡ 1 = ap one_if is in omega (arith, all, one)
-    by false is = let none : one_if (is_entry k) ≡ 0 = ap one_if is in absurd (apart (omega (arith, all, none)))
-
-module _ (old : Past) (pass next : PassOf) (what : Plain_event) (leaves : leaves_entry what ≡ true) (new : Past) (answer : Plain_reply) where
-  counted-as : (b : Bool) → is_entry (call_of what answer) ≡ b → CalledWith old pass what answer new → next ≡ keeping pass (call_of what answer)
-      → (count_of next.kept ≡ count_of pass.kept + one_if b) × (length new.history ≡ length old.history + one_if b)
-  counted-as b is h kept =
-      let one : one_if (is_entry (call_of what answer)) ≡ one_if b = ap one_if is in
-      let all : count_of next.kept ≡ count_of pass.kept + one_if (is_entry (call_of what answer)) =
-      ap (λ (p : PassOf). count_of p.kept) kept ∙ one-more is_entry pass.kept (call_of what answer) in
-      let long = grown old pass what leaves new answer h in
-      (omega (arith, one, all), omega (arith, one, long))
-
-  -- where the count rises, the trace is one longer
-  pub counted-more : CalledWith old pass what answer new → next ≡ keeping pass (call_of what answer) → (count_of next.kept ≡ count_of pass.kept → ⊥) → length new.history ≡ length old.history + 1
-  counted-more h kept apart = by (is_entry (call_of what answer)) refl
-    where
-      by : (b : Bool) → is_entry (call_of what answer) ≡ b → length new.history ≡ length old.history + 1
-      by true is = (counted-as true is h kept).1
-      by false is = let same = (counted-as false is h kept).0 in absurd (apart (omega (arith, same)))
-
-  -- where it stays, the trace is as long
-  pub counted-same : CalledWith old pass what answer new → next ≡ keeping pass (call_of what answer) → count_of next.kept ≡ count_of pass.kept → length new.history ≡ length old.history
-  counted-same h kept same = by (is_entry (call_of what answer)) refl
-    where
-      by : (b : Bool) → is_entry (call_of what answer) ≡ b → length new.history ≡ length old.history
-      by true is = let more = (counted-as true is h kept).0 in absurd (omega (arith, more, same))
-      by false is = let long = (counted-as false is h kept).1 in omega (arith, long)

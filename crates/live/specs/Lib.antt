@@ -4,4 +4,7 @@ pub mod Runs
 pub mod Reports
 pub mod Crews
 pub mod Matching
-pub mod Unread
+pub mod Told
+pub mod Rules
+pub mod Logs
+pub mod OneRun

@@ -5,7 +5,7 @@ use Rattle.machine.specs.State.{Opening, State}
 use Rattle.machine.specs.Legal.{Legal}
 use Rattle.book.specs.Passes.{PassOf}
 use Rattle.live.specs.declared.report.Unfinished.{Unfinished}
-use Rattle.live.specs.declared.report.Unfinished.TheVariants.{PassMissing, NoMemory}
+use Rattle.live.specs.declared.report.Unfinished.TheVariants.{PassMissing}
 use Rattle.live.specs.Matching.{has_share}
 
 -- the history leads by steps of the plain machine from the opening to a state, newest entry first. (Excludes the trace of another machine.)
@@ -23,4 +23,3 @@ pub record HasOut (passes : List PassOf) : Type 0 where
 -- why a run is not finished: so many passes were given out, and fewer were handed in, or one of these has a ticket out
 abbrev pub IsMissing : List PassOf → Unfinished → Type 0
 IsMissing passes (PassMissing given) = (length passes < given) ⊎ HasOut passes
-IsMissing passes NoMemory = Unit {0}

@@ -13,20 +13,19 @@ use machine::refusal::Refusal;
 use std::alloc::Global;
 use std::marker::Model;
 use std::sync::Wait;
-use std::sync::ledger::Ledger;
 use std::thread;
 use std::thread::Threads;
 
 /// A worker with what it is to do, and with what it answered to that.
 #[derive(Drop)]
-pub struct Worker<L: Ledger> {
+pub struct Worker<L: Opened> {
     actor: Actor,
     pass: Pass<L>,
     commands: Vec<Command>,
     answers: Result<Vec<Reply>, Refusal>,
 }
 
-impl<L: Ledger> Model for Worker<L> {
+impl<L: Opened> Model for Worker<L> {
     ghost use Rattle.std.specs.Prelude.{Result, Ok, Err};
     ghost use Rattle.live.specs.Crews.{WorkerOf, answers_of};
 
@@ -35,7 +34,7 @@ impl<L: Ledger> Model for Worker<L> {
     ghost view = { λ w. record { actor = w.actor; pass = w.pass; commands = w.commands.items; answers = answers_of w.answers } };
 }
 
-impl<L: Ledger> Worker<L> {
+impl<L: Opened> Worker<L> {
     /// A worker that has not answered anything yet.
     pub fn new(alloc: Global, actor: Actor, pass: Pass<L>, commands: Vec<Command>) -> Worker<L>
         ensures { result ≡ record { actor = actor; pass = pass; commands = commands.items; answers = Ok [] } }
@@ -78,7 +77,7 @@ impl<L: Ledger> Worker<L> {
     }
 }
 
-impl<L: Ledger + Opened> Worker<L> {
+impl<L: Opened> Worker<L> {
     /// Does what it is to do.
     pub fn work<D: SharedDevice, R: Wait>(&mut self, rt: &R, live: &Live<L, D>)
         ensures { HasWorked L.opening.watermarks self.old self.new }
@@ -102,7 +101,7 @@ impl<L: Ledger + Opened> Worker<L> {
 }
 
 /// Each worker does what it is to do, in a thread of its own where one can be made.
-fn each_works<L: Ledger + Opened + Send + Sync, D: SharedDevice + Sync, R: Threads + Wait + Sync>(
+fn each_works<L: Opened + Send + Sync, D: SharedDevice + Sync, R: Threads + Wait + Sync>(
     rt: &R,
     live: &Live<L, D>,
     workers: &mut [Worker<L>],
@@ -121,11 +120,12 @@ fn each_works<L: Ledger + Opened + Send + Sync, D: SharedDevice + Sync, R: Threa
 ///
 /// Each has a thread of its own. Where no more threads can be made, workers that are left work one after the
 /// other.
-pub fn work_together<
-    L: Ledger + Opened + Send + Sync,
-    D: SharedDevice + Sync,
-    R: Threads + Wait + Sync,
->(rt: &R, live: &Live<L, D>, workers: Vec<Worker<L>>, daemon: Pass<L>) -> (Vec<Worker<L>>, Pass<L>)
+pub fn work_together<L: Opened + Send + Sync, D: SharedDevice + Sync, R: Threads + Wait + Sync>(
+    rt: &R,
+    live: &Live<L, D>,
+    workers: Vec<Worker<L>>,
+    daemon: Pass<L>,
+) -> (Vec<Worker<L>>, Pass<L>)
     ensures workers { HaveWorked L.opening.watermarks workers.items result.0.items }
     ensures count { length result.0.items ≡ length workers.items }
     ensures daemon { Repeated L.opening.watermarks Actor.Daemon Command.Daemon daemon.kept result.1.kept }

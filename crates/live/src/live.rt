@@ -1,6 +1,6 @@
 //! The book under its lock, the device, and the end of a run.
 
-ghost use Rattle.std.specs.Prelude.{◌≡◌, ◌⊎◌, ℕ, ◌<◌, ◌≤◌, [], true, false, All, MatchBool, is_ok, length, reverse, IfOk, IfErr, ◌↔◌};
+ghost use Rattle.std.specs.Prelude.{◌≡◌, ◌⊎◌, ℕ, ◌+◌, ◌<◌, ◌≤◌, [], true, false, All, MatchBool, is_ok, length, reverse, IfOk, IfErr, OnOk, OnErr, ◌↔◌};
 ghost use Rattle.std.specs.List.{sum_by};
 ghost use Rattle.machine.specs.State.{opening_of, is_config};
 ghost use Rattle.machine.specs.History.{Honest, Right, Numbered, at_first};
@@ -11,12 +11,14 @@ ghost use Rattle.book.specs.Passes.{count_of};
 ghost use Rattle.turns.specs.Tickets.{blocks_in};
 ghost use Rattle.live.specs.Matching.{Matches, has_share};
 ghost use Rattle.live.specs.Reports.{IsLegal, HasOut, IsMissing};
+ghost use Rattle.live.specs.OneRun.{IsOneRun, WereGiven};
 
 use crate::hand::First;
-use crate::matching::replies_match;
+use crate::history::Unnamed;
 use crate::opened::Opened;
 use crate::pass::Pass;
 use crate::report::{Report, Unfinished};
+use crate::roll::Roll;
 use crate::shared_book::SharedBook;
 use crate::shares::has_share;
 use block_store::SharedDevice;
@@ -24,15 +26,14 @@ use book::Book;
 use machine::config::{Config, Placement, Watermarks};
 use machine::refusal::Refusal;
 use std::alloc::{AllocError, Global};
-use std::sync::ledger::{Blank, Ledger};
 use std::sync::{Condvar, Mutex, Wait};
 use trace::audit;
 
 /// A machine that workers share: its book under one lock, and its device, whose calls are made outside it.
 ///
-/// `L` tells what it was opened with, and names the ledger of its entries. It must be spent, by [`Live::finish`]
-/// or [`Live::give_up`].
-pub struct Live<L: Ledger + Opened, D: SharedDevice> {
+/// `L` tells what it was opened with, and which history has what its workers are told. It must be spent, by
+/// [`Live::finish`] or [`Live::give_up`].
+pub struct Live<L: Opened, D: SharedDevice> {
     pub(crate) shared: Mutex<SharedBook<L>>,
     /// The first seat of the marks of frames. Its lock and the book's are never held together.
     pub(crate) first: Mutex<First>,
@@ -47,22 +48,19 @@ pub struct Live<L: Ledger + Opened, D: SharedDevice> {
     ghost fits: { blocks_in L.opening ≤ D.extent device },
 }
 
-/// The passes that there can be, and one part more for the rest.
-pub const PARTS: u64 = 131_073;
-
-impl<L: Ledger + Opened, D: SharedDevice> Live<L, D> {
+impl<L: Opened, D: SharedDevice> Live<L, D> {
     /// A machine at which nobody works yet, with a device that has as many blocks as the configuration asks
-    /// for. It fails as [`Book::open`] does, and hands the device back.
+    /// for, and the roll of its passes. It fails as [`Book::open`] does, and hands the device back.
     pub fn open(
         alloc: Global,
         config: Config,
         device: D,
-        blank: Blank,
-    ) -> Result<Live<L, D>, (D, Refusal)>
-        requires name { blank.name ≡ L.name }
-        requires parts { (blank.parts ≡ L.parts) × (blank.parts ≡ 131073) }
+        unnamed: Unnamed,
+    ) -> Result<(Live<L, D>, Roll<L>), (D, Refusal)>
+        requires named { unnamed ≡ L.table }
         requires opened { opening_of config ≡ L.opening }
         requires fits { blocks_in L.opening ≤ D.extent device }
+        ensures none { IfOk result (λ r. r.1 ≡ record { given = 0 }) }
         ensures err { IfErr result (λ e. (e.1 ≡ Refusal.Invalid) × (is_config config ≡ false) ⊎ (e.1 ≡ Refusal.NoMemory) × (is_config config ≡ true)) }
         ensures back { IfErr result (λ e. e.0 ≡ device) }
     {
@@ -78,25 +76,32 @@ impl<L: Ledger + Opened, D: SharedDevice> Live<L, D> {
                 let _ = book.close();
                 Err((device, Refusal::NoMemory))
             }
-            Ok(first) => Ok(Live {
-                shared: Mutex::new(SharedBook::new(book, blank)),
-                first: Mutex::new(first),
-                moved: Condvar::new(),
-                device,
-                marks,
-                placement,
-                alloc,
-            }),
+            Ok(first) => {
+                let (log, front) = unnamed.named();
+                let live = Live {
+                    shared: Mutex::new(SharedBook::new(book, log)),
+                    first: Mutex::new(first),
+                    moved: Condvar::new(),
+                    device,
+                    marks,
+                    placement,
+                    alloc,
+                };
+                Ok((live, Roll::new(front)))
+            }
         }
     }
 
-    /// A pass for one worker more. `NoSpace` where 131,072 were given out, and otherwise `NoMemory` where memory
-    /// is refused.
-    pub fn pass<R: Wait>(&self, rt: &R) -> Result<Pass<L>, Refusal>
+    /// A pass for one worker more, which the roll counts. `NoSpace` where 131,072 were given out, and otherwise
+    /// `NoMemory` where memory is refused.
+    pub fn pass<R: Wait>(&self, rt: &R, roll: &mut Roll<L>) -> Result<Pass<L>, Refusal>
         ensures kept { IfOk result (λ pass. pass.kept ≡ []) }
-        ensures err { IfErr result (λ cause. (cause ≡ Refusal.NoSpace) ⊎ (cause ≡ Refusal.NoMemory)) }
+        ensures worker { IfOk result (λ pass. pass.caller.worker ≡ roll.old.given) }
+        ensures counted { OnOk result (roll.new ≡ record { given = roll.old.given + 1 }) }
+        ensures unchanged { OnErr result (roll.new ≡ roll.old) }
+        ensures err { IfErr result (λ cause. (cause ≡ Refusal.NoSpace) × (131072 ≤ roll.old.given) ⊎ (cause ≡ Refusal.NoMemory) × (roll.old.given < 131072)) }
     {
-        self.shared.lock(rt).pass()
+        self.shared.lock(rt).pass(roll)
     }
 
     /// Has the daemon end, once it has run once more.
@@ -107,7 +112,7 @@ impl<L: Ledger + Opened, D: SharedDevice> Live<L, D> {
 }
 
 /// Whether one of the passes began a transfer that it did not end.
-fn has_out<L: Ledger>(passes: &[Pass<L>]) -> bool
+fn has_out<L: Opened>(passes: &[Pass<L>]) -> bool
     ensures { MatchBool result (HasOut passes.now) (All (λ p. has_share p.kept ≡ false) passes.now) }
 {
     for pass in passes {
@@ -118,86 +123,57 @@ fn has_out<L: Ledger>(passes: &[Pass<L>]) -> bool
     false
 }
 
-/// Whether the run can end: each pass is there, and none has a ticket out. Then whether what the passes keep is
-/// what the trace has of their workers.
-fn may_end<L: Ledger + Opened>(
-    alloc: Global,
-    shared: &SharedBook<L>,
-    passes: &[Pass<L>],
-) -> Result<bool, Unfinished>
-    ensures all { IfOk result (λ yes. shared.now.passes ≤ length passes.now) }
-    ensures ended { IfOk result (λ yes. All (λ p. has_share p.kept ≡ false) passes.now) }
-    ensures matches { IfOk result (λ yes. MatchBool yes (Matches (reverse shared.now.history) passes.now) (Matches (reverse shared.now.history) passes.now → ⊥)) }
-    ensures missing { IfErr result (λ cause. IsMissing passes.now cause) }
-{
-    let given = shared.passes();
-    if passes.len() < given as usize || has_out(passes) {
-        return Err(Unfinished::PassMissing(given));
-    }
-    match replies_match(alloc, shared.trace().entries(), passes) {
-        Ok(yes) => Ok(yes),
-        Err(_) => Err(Unfinished::NoMemory),
-    }
-}
-
-impl<L: Ledger + Opened, D: SharedDevice + Drop> Live<L, D> {
-    /// Ends the run, where each pass is handed in and none has a ticket out: what the workers did, whether it is
-    /// what their passes keep, and its audit.
+impl<L: Opened, D: SharedDevice + Drop> Live<L, D> {
+    /// Ends the run, where each pass is handed in and none has a ticket out: what the workers did, and its audit.
     ///
-    /// Otherwise `PassMissing`, with how many passes were given out, or `NoMemory`, and all is handed back.
+    /// Otherwise `PassMissing`, with how many passes were given out, and all is handed back.
     pub fn finish(
         self,
         passes: Vec<Pass<L>>,
-    ) -> Result<Report, (Live<L, D>, Vec<Pass<L>>, Unfinished)>
+        roll: Roll<L>,
+    ) -> Result<Report, (Live<L, D>, Vec<Pass<L>>, Unfinished, Roll<L>)>
+        ensures count { IfOk result (λ r. length passes.items ≡ roll.given) }
+        ensures one_run { IfOk result (λ r. IsOneRun L.opening r.trace.entries passes.items) }
+        ensures each { IfOk result (λ r. All (λ p. WereGiven L.opening (reverse r.trace.entries) p.caller.worker p.kept) passes.items) }
         ensures legal { IfOk result (λ r. IsLegal L.opening (reverse r.trace.entries)) }
         ensures right { IfOk result (λ r. (files : ℕ → ℕ → ℕ → ℕ) → Honest (at_first files) (reverse r.trace.entries) → Right (at_first files) (reverse r.trace.entries)) }
         ensures numbered { IfOk result (λ r. Numbered (reverse r.trace.entries)) }
         ensures entries { IfOk result (λ r. length r.trace.entries ≡ sum_by (λ p. count_of p.kept) passes.items) }
+        ensures always { IfOk result (λ r. r.replies_match ≡ true) }
         ensures matches { IfOk result (λ r. MatchBool r.replies_match (Matches r.trace.entries passes.items) (Matches r.trace.entries passes.items → ⊥)) }
         ensures at_rest { IfOk result (λ r. r.replies_match ≡ true → transfers_begun (reverse r.trace.entries) ≡ transfers_ended (reverse r.trace.entries)) }
         ensures audited { IfOk result (λ r. let history = reverse r.trace.entries in is_ok r.audit ≡ true ↔ Passes (first_of history) history) }
         ensures first { IfOk result (λ r. IfErr r.audit (λ first. IsFirstWrong r.trace.entries first.entry)) }
         ensures all { IfOk result (λ r. All (λ p. has_share p.kept ≡ false) passes.items) }
         ensures missing { IfErr result (λ e. IsMissing passes.items e.2) }
+        ensures given { IfErr result (λ e. e.2 ≡ Unfinished.PassMissing roll.given) }
         ensures back { IfErr result (λ e. e.1.items ≡ passes.items) }
+        ensures roll { IfErr result (λ e. e.3 ≡ roll) }
     {
+        let given = roll.given();
+        if passes.len() < given as usize || has_out(passes.as_slice()) {
+            return Err((self, passes, Unfinished::PassMissing(given), roll));
+        }
         let Live {
             shared,
-            first,
-            moved,
-            device,
-            marks,
-            placement,
-            alloc,
+            first: _,
+            moved: _,
+            device: _,
+            marks: _,
+            placement: _,
+            alloc: _,
         } = self;
-        let shared = shared.into_inner();
-        match may_end(alloc, &shared, passes.as_slice()) {
-            Err(cause) => {
-                let live = Live {
-                    shared: Mutex::new(shared),
-                    first,
-                    moved,
-                    device,
-                    marks,
-                    placement,
-                    alloc,
-                };
-                Err((live, passes, cause))
-            }
-            Ok(replies_match) => {
-                let trace = shared.settle(passes);
-                let audit = audit(&trace);
-                Ok(Report {
-                    trace,
-                    replies_match,
-                    audit,
-                })
-            }
-        }
+        let trace = shared.into_inner().settle(passes, roll);
+        let audit = audit(&trace);
+        Ok(Report {
+            trace,
+            replies_match: true,
+            audit,
+        })
     }
 
     /// Ends everything, and tells nothing of it.
-    pub fn give_up(self) {
+    pub fn give_up(self, roll: Roll<L>) {
         let Live {
             shared,
             first: _,
@@ -208,5 +184,6 @@ impl<L: Ledger + Opened, D: SharedDevice + Drop> Live<L, D> {
             alloc: _,
         } = self;
         let _trace = shared.into_inner().close();
+        let _front = roll.into_front();
     }
 }

@@ -1,61 +1,69 @@
 //! The workers' passes.
 
-ghost use Rattle.std.specs.Prelude.{◌≡◌, ◌<◌, ◌≤◌, [], length, OnOk, OnErr, IfOk, true, false};
+ghost use Rattle.std.specs.Prelude.{◌≡◌, ◌<◌, ◌≤◌, ◌∷◌, [], length, OnOk, OnErr, IfOk, true, false};
 ghost use Rattle.machine.specs.Call.{leaves_entry};
 ghost use Rattle.book.specs.Events.{event_of, reply_of};
-ghost use Rattle.book.specs.Passes.{count_of, call_of, keeping};
+ghost use Rattle.book.specs.Passes.{call_of, keeping, CalledWith};
 ghost use Rattle.book.specs.Replies.{Replies, KeepsTicket, HandsOut};
 ghost use Rattle.turns.specs.Tickets.{holds};
+ghost use Rattle.turns.specs.Turns.{paths_of};
 ghost use Rattle.live.specs.Runs.{Looked};
+ghost use Rattle.live.specs.Told.{told, told_to, telling};
+ghost use Rattle.live.specs.Rules.{of_worker};
+ghost use Rattle.live.specs.OneRun.{Gathers, found_in};
 
 use crate::hand::Hand;
+use crate::history::{Front, Log};
+use crate::opened::Opened;
 use book::{Book, Event, Kept, Reply};
 use machine::command::{Actor, Command};
 use machine::refusal::Refusal;
 use std::alloc::{AllocError, Global};
-use std::marker::Model;
-use std::sync::ledger;
-use std::sync::ledger::{Ledger, Share};
+use std::marker::{Model, PhantomData};
 use turns::automaton::spend;
 use turns::judge::judge;
 use turns::turn::Stage;
 
-/// A worker's leave to ask the book that workers share, with what it asked and what came back.
+/// A worker's leave to ask the book that workers share, with what it asked and what came back; and a seat of the history,
+/// which knows the same.
 ///
 /// A contract sees it as it sees a [`book::Pass`].
 #[derive(Drop)]
-pub struct Pass<L: Ledger> {
+pub struct Pass<L: Opened> {
     pass: book::Pass,
-    /// As many entries as the pass has answers in the trace.
-    share: Share<L>,
+    front: Front,
     /// How many transfers had ended when it last asked.
     seen: u64,
     /// A seat of the marks of frames, while it works.
     hand: Option<Hand>,
+    of: PhantomData<L>,
 }
 
-impl<L: Ledger> Model for Pass<L> {
-    ghost use Rattle.std.specs.Prelude.{◌≡◌};
-    ghost use Rattle.book.specs.Passes.{PassOf, count_of};
+impl<L: Opened> Model for Pass<L> {
+    ghost use Rattle.std.specs.Prelude.{◌≡◌, []};
+    ghost use Rattle.book.specs.Passes.{PassOf};
+    ghost use Rattle.live.specs.Rules.{of_worker};
 
     ghost Value = { PassOf };
 
     ghost view = { λ p. p.pass };
 
-    ghost invariant = { λ p. (p.share.amount ≡ count_of p.pass.kept) × (p.share.parts ≡ 1) };
+    ghost invariant = { λ p. (p.front.table_id ≡ L.table) × (p.front.me ≡ (of_worker p.pass.caller.worker p.pass.kept, [])) };
 }
 
-impl<L: Ledger> Pass<L> {
-    pub(crate) fn new(pass: book::Pass, share: Share<L>) -> Pass<L>
+impl<L: Opened> Pass<L> {
+    pub(crate) fn new(pass: book::Pass, front: Front) -> Pass<L>
         requires fresh { pass.kept ≡ [] }
-        requires part { (share.parts ≡ 1) × (share.amount ≡ 0) }
+        requires of_these { front.table_id ≡ L.table }
+        requires front { front.me ≡ (of_worker pass.caller.worker [], []) }
         ensures { result ≡ pass }
     {
         Pass {
             pass,
-            share,
+            front,
             seen: 0,
             hand: None,
+            of: PhantomData,
         }
     }
 
@@ -64,12 +72,6 @@ impl<L: Ledger> Pass<L> {
         ensures { result.now ≡ self.now.kept }
     {
         self.pass.kept()
-    }
-
-    pub(crate) fn pass(&self) -> &book::Pass
-        ensures { result.now ≡ self.now }
-    {
-        &self.pass
     }
 
     pub(crate) fn seen(&self) -> u64 {
@@ -110,7 +112,7 @@ impl<L: Ledger> Pass<L> {
     pub(crate) fn gather(&mut self, book: &mut Book)
         requires room { 0 < self.old.room }
         ensures pass { self.new ≡ self.old }
-        ensures book { book.new ≡ record book.old { order = book.new.order } }
+        ensures book { Gathers book.old book.new }
     {
         for word in 0..self.words() {
             self.gather_word(book, word);
@@ -128,7 +130,7 @@ impl<L: Ledger> Pass<L> {
     fn gather_word(&mut self, book: &mut Book, word: u32)
         requires room { 0 < self.old.room }
         ensures pass { self.new ≡ self.old }
-        ensures book { book.new ≡ record book.old { order = book.new.order } }
+        ensures book { Gathers book.old book.new }
     {
         let bits = self.take(word);
         if bits != 0 {
@@ -158,61 +160,61 @@ impl<L: Ledger> Pass<L> {
         }
     }
 
-    /// One event of the book. The ledger counts each answer that stands in the trace.
-    pub(crate) fn ask(
-        &mut self,
-        book: &mut Book,
-        entries: &mut ledger::Book<L>,
-        event: Event,
-    ) -> Reply
+    /// One event of the book. The history has what it was told.
+    pub(crate) fn ask(&mut self, book: &mut Book, log: &mut Log, event: Event) -> Reply
         requires room { 0 < self.old.room }
         requires leaves { leaves_entry (event_of event) ≡ true }
-        requires counted { entries.old.total ≡ length book.old.history }
-        ensures counted { entries.new.total ≡ length book.new.history }
+        requires of_these { log.old.table ≡ L.table }
+        ensures called { CalledWith book.old self.old (event_of event) (reply_of result) book.new }
+        ensures log { log.new ≡ record log.old { log = told self.old.caller.worker (call_of (event_of event) (reply_of result)) ∷ log.old.log } }
+        ensures known { self.old.kept ≡ told_to self.old.caller.worker log.old.log }
+        ensures given { self.old.caller.worker < log.old.given }
         ensures kept { self.new ≡ keeping self.old (call_of (event_of event) (reply_of result)) }
         ensures replies { Replies event result }
         ensures gives { HandsOut book.new self.old.caller.worker result }
         ensures keeps { KeepsTicket self.old.caller.worker event result }
-        ensures opening { book.new.state.opening ≡ book.old.state.opening }
         ensures passes { book.new.passes ≡ book.old.passes }
     {
-        let count = self.pass.count();
         let reply = book.call(&mut self.pass, event);
-        if self.pass.count() != count {
-            entries.add(&mut self.share, 1);
-        }
+        log.note(&mut self.front, &self.pass);
         reply
     }
 
-    /// What becomes of a command in its first turn.
+    /// What becomes of a command in its first turn. The history has the paths that were looked up.
     pub(crate) fn judge(
         &mut self,
         alloc: Global,
         book: &Book,
+        log: &mut Log,
         actor: Actor,
         command: &Command,
     ) -> Result<Result<Stage, Refusal>, AllocError>
-        requires { 2 ≤ self.old.room }
+        requires room { 2 ≤ self.old.room }
+        requires of_these { log.old.table ≡ L.table }
         ensures looked { IfOk result (λ judged. Looked actor command.now self.old.kept self.new.kept judged) }
+        ensures log { OnOk result (log.new ≡ record log.old { log = telling self.old.caller.worker (found_in book.now.state.tree (paths_of actor command.now)) log.old.log }) }
         ensures caller { self.new.caller ≡ self.old.caller }
         ensures free { IfOk result (λ judged. IfOk judged (λ stage. holds stage ≡ false)) }
         ensures err { OnErr result (self.new.kept ≡ self.old.kept) }
+        ensures unchanged { OnErr result (log.new ≡ log.old) }
     {
         let judged = judge(alloc, book, &mut self.pass, actor, command)?;
+        log.note(&mut self.front, &self.pass);
         Ok(judged)
     }
 
-    /// Its part of the ledger.
-    pub(crate) fn into_share(self) -> Share<L>
-        ensures amount { result.amount ≡ count_of self.kept }
-        ensures parts { result.parts ≡ 1 }
+    /// Its seat of the history.
+    pub(crate) fn into_front(self) -> Front
+        ensures of_these { result.table_id ≡ L.table }
+        ensures front { result.me ≡ (of_worker self.caller.worker self.kept, []) }
     {
         let Pass {
             pass: _,
-            share,
+            front,
             seen: _,
             hand: _,
+            of: _,
         } = self;
-        share
+        front
     }
 }

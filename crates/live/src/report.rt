@@ -7,7 +7,8 @@ use trace::{First, Trace};
 pub struct Report {
     /// All that was asked and answered, in the order in which the book took it.
     pub trace: Trace,
-    /// Whether the answers that each worker's pass keeps are those of its entries in the trace, all of them.
+    /// Whether the answers that each worker's pass keeps are those of its entries in the trace, all of them. They always
+    /// are.
     pub replies_match: bool,
     /// Whether each page that arrived brought what was last written, and each read gave it; or the first entry
     /// of which that is not so.
@@ -19,6 +20,4 @@ pub struct Report {
 pub enum Unfinished {
     /// So many passes were given out, and one of them was not handed in, or has a ticket out.
     PassMissing(u32),
-    /// Memory was wanted and refused.
-    NoMemory,
 }

@@ -1,56 +1,55 @@
 //! What lies under the lock.
 
-ghost use Rattle.std.specs.Prelude.{◌≡◌, ◌⊎◌, ℕ, ◌+◌, ◌<◌, ◌≤◌, [], false, length, reverse, IfOk, IfErr, OnErr};
+ghost use Rattle.std.specs.Prelude.{◌≡◌, ◌⊎◌, ℕ, ◌+◌, ◌<◌, ◌≤◌, [], false, length, reverse, IfOk, IfErr, OnOk, OnErr, All};
 ghost use Rattle.std.specs.List.{sum_by};
-ghost use Rattle.machine.specs.State.{opening_of, is_config};
+ghost use Rattle.machine.specs.Call.{first_past};
 ghost use Rattle.machine.specs.History.{Honest, Right, Numbered, at_first};
 ghost use Rattle.machine.specs.Transfers.{transfers_begun, transfers_ended};
 ghost use Rattle.book.specs.Events.{event_of, reply_of};
 ghost use Rattle.book.specs.Passes.{count_of, call_of, keeping};
 ghost use Rattle.book.specs.Replies.{Replies};
 ghost use Rattle.turns.specs.Tickets.{blocks_in, is_ending, OwnEvent, OwnReply, IsHanded, holds};
+ghost use Rattle.live.specs.Matching.{Matches};
 ghost use Rattle.live.specs.Runs.{Looked};
 ghost use Rattle.live.specs.Reports.{IsLegal};
+ghost use Rattle.live.specs.Rules.{IsAll};
+ghost use Rattle.live.specs.OneRun.{IsOneRun, WereGiven, rows_of};
 
+use crate::history::{Ending, Log};
 use crate::opened::Opened;
 use crate::pass::Pass;
+use crate::roll::Roll;
 use book::{Book, Event, Reply};
 use machine::command::{Actor, Command};
 use machine::refusal::Refusal;
 use std::alloc::{AllocError, Global};
-use std::marker::Model;
-use std::sync::ledger;
-use std::sync::ledger::{Blank, Ledger, Share};
+use std::marker::{Model, PhantomData};
 use trace::Trace;
 use turns::turn::Stage;
 
-/// The book that workers share, with a ledger of its entries, and what is known of it for those who wait.
+/// The book that workers share, with the history of what they were told, and what is known of it for those who wait.
 ///
 /// A contract sees it as the book's past.
-pub struct SharedBook<L: Ledger + Opened> {
+pub struct SharedBook<L: Opened> {
     book: Book,
-    entries: ledger::Book<L>,
-    /// The parts of the ledger that no pass has.
-    rest: Share<L>,
+    log: Log,
     /// How many transfers have ended.
     ended: u64,
     is_stopped: bool,
     /// Whether as many frames as the low mark were free since the daemon last began.
     is_armed: bool,
+    of: PhantomData<L>,
 }
 
-impl<L: Ledger + Opened> Model for SharedBook<L> {
-    ghost use Rattle.std.specs.Prelude.{◌≡◌, ◌+◌, length};
+impl<L: Opened> Model for SharedBook<L> {
     ghost use Rattle.machine.specs.Call.{Past};
+    ghost use Rattle.live.specs.OneRun.{IsShared};
 
     ghost Value = { Past };
 
     ghost view = { λ s. s.book };
 
-    ghost invariant = { λ s.
-        (s.entries.total ≡ length s.book.history)
-        × (s.rest.amount ≡ 0) × (s.rest.parts + s.book.passes ≡ L.parts) × (L.parts ≡ 131073)
-        × (s.book.state.opening ≡ L.opening) };
+    ghost invariant = { λ s. IsShared L.table L.opening s.book s.log };
 }
 
 /// Whether it ends a transfer, for which others may wait.
@@ -72,32 +71,33 @@ fn is_strange(reply: &Reply) -> bool {
     matches!(reply, Reply::StrangeIn(_) | Reply::StrangeOut(_))
 }
 
-impl<L: Ledger + Opened> SharedBook<L> {
-    pub fn new(book: Book, blank: Blank) -> SharedBook<L>
-        requires fresh { (book.history ≡ []) × (book.passes ≡ 0) }
-        requires name { blank.name ≡ L.name }
-        requires parts { (blank.parts ≡ L.parts) × (blank.parts ≡ 131073) }
-        requires opened { book.state.opening ≡ L.opening }
+impl<L: Opened> SharedBook<L> {
+    pub fn new(book: Book, log: Log) -> SharedBook<L>
+        requires fresh { book ≡ first_past L.opening }
+        requires log { (log.table ≡ L.table) × (log.given ≡ 0) × (log.log ≡ []) }
     {
-        let (entries, rest) = blank.open::<L>();
         SharedBook {
             book,
-            entries,
-            rest,
+            log,
             ended: 0,
             is_stopped: false,
             is_armed: true,
+            of: PhantomData,
         }
     }
 
-    /// A pass for one worker more.
-    pub fn pass(&mut self) -> Result<Pass<L>, Refusal>
+    /// A pass for one worker more, which the roll counts.
+    pub fn pass(&mut self, roll: &mut Roll<L>) -> Result<Pass<L>, Refusal>
         ensures kept { IfOk result (λ pass. pass.kept ≡ []) }
-        ensures err { IfErr result (λ cause. (cause ≡ Refusal.NoSpace) × (131072 ≤ self.old.passes) ⊎ (cause ≡ Refusal.NoMemory) × (self.old.passes < 131072)) }
+        ensures worker { IfOk result (λ pass. pass.caller.worker ≡ roll.old.given) }
+        ensures counted { OnOk result (roll.new ≡ record { given = roll.old.given + 1 }) }
+        ensures unchanged { OnErr result (roll.new ≡ roll.old) }
+        ensures err { IfErr result (λ cause. (cause ≡ Refusal.NoSpace) × (131072 ≤ roll.old.given) ⊎ (cause ≡ Refusal.NoMemory) × (roll.old.given < 131072)) }
     {
+        roll.agree(&mut self.log);
         let pass = self.book.pass()?;
-        let share = self.rest.split_off(1, 0);
-        Ok(Pass::new(pass, share))
+        let front = roll.give_out(&mut self.log, self.book.passes());
+        Ok(Pass::new(pass, front))
     }
 
     /// One event. Before a page is taken all marks that were set are merged.
@@ -133,14 +133,14 @@ impl<L: Ledger + Opened> SharedBook<L> {
         ensures own { OwnReply pass.old.caller.worker (blocks_in L.opening) result }
         ensures handed { IsHanded result }
     {
-        let reply = pass.ask(&mut self.book, &mut self.entries, event);
+        let reply = pass.ask(&mut self.book, &mut self.log, event);
         self.book.history_is_right();
         reply
     }
 
     /// What becomes of a command in its first turn.
     pub fn judge(
-        &self,
+        &mut self,
         alloc: Global,
         pass: &mut Pass<L>,
         actor: Actor,
@@ -152,7 +152,7 @@ impl<L: Ledger + Opened> SharedBook<L> {
         ensures free { IfOk result (λ judged. IfOk judged (λ stage. holds stage ≡ false)) }
         ensures err { OnErr result (pass.new.kept ≡ pass.old.kept) }
     {
-        pass.judge(alloc, &self.book, actor, command)
+        pass.judge(alloc, &self.book, &mut self.log, actor, command)
     }
 
     pub fn free_frames(&self) -> u32 {
@@ -185,71 +185,59 @@ impl<L: Ledger + Opened> SharedBook<L> {
         self.ended
     }
 
-    /// How many passes were given out.
-    pub fn passes(&self) -> u32
-        ensures { result ≡ self.now.passes }
-    {
-        self.book.passes()
-    }
-
-    /// What was asked and answered so far.
-    pub fn trace(&self) -> &Trace
-        ensures { result.now.entries ≡ reverse self.now.history }
-    {
-        self.book.trace()
-    }
-
     /// Ends the book: its trace.
     pub fn close(self) -> Trace {
         let SharedBook {
             book,
-            entries: _,
-            rest: _,
+            log: _,
             ended: _,
             is_stopped: _,
             is_armed: _,
+            of: _,
         } = self;
         book.close()
     }
 
     /// Ends the book with all its passes.
-    pub fn settle(self, passes: Vec<Pass<L>>) -> Trace
-        requires { self.passes ≤ length passes.items }
-        ensures all { length passes.items ≡ self.passes }
-        ensures trace { result.entries ≡ reverse self.history }
+    pub fn settle(self, passes: Vec<Pass<L>>, roll: Roll<L>) -> Trace
+        requires { roll.given ≤ length passes.items }
+        ensures count { length passes.items ≡ roll.given }
+        ensures one_run { IsOneRun L.opening result.entries passes.items }
+        ensures each { All (λ p. WereGiven L.opening (reverse result.entries) p.caller.worker p.kept) passes.items }
         ensures legal { IsLegal L.opening (reverse result.entries) }
         ensures right { (files : ℕ → ℕ → ℕ → ℕ) → Honest (at_first files) (reverse result.entries) → Right (at_first files) (reverse result.entries) }
         ensures numbered { Numbered (reverse result.entries) }
         ensures transfers { transfers_ended (reverse result.entries) ≤ transfers_begun (reverse result.entries) }
         ensures entries { length result.entries ≡ sum_by (λ p. count_of p.kept) passes.items }
+        ensures matches { Matches result.entries passes.items }
     {
         let SharedBook {
             book,
-            entries,
-            rest,
+            log,
             ended: _,
             is_stopped: _,
             is_armed: _,
+            of: _,
         } = self;
-        bring_together(entries, rest, passes);
+        let count = roll.given();
+        let ending = log.end(roll.into_front(), count);
+        bring_together(ending, passes);
         book.history_is_right();
         book.close()
     }
 }
 
-/// Brings all parts of the ledger together: the passes have as many answers in the trace as it has counted.
-fn bring_together<L: Ledger>(entries: ledger::Book<L>, rest: Share<L>, passes: Vec<Pass<L>>)
-    requires all { L.parts ≤ rest.parts + length passes.items }
-    requires most { rest.parts ≤ L.parts }
-    requires none { rest.amount ≡ 0 }
-    ensures parts { rest.parts + length passes.items ≡ L.parts }
-    ensures counted { entries.total ≡ sum_by (λ p. count_of p.kept) passes.items }
+/// All seats are brought together: they have all that the history has.
+fn bring_together<L: Opened>(ending: Ending, passes: Vec<Pass<L>>)
+    requires of_these { ending.table ≡ L.table }
+    requires roll { ending.view.rolls ≡ 1 }
+    requires empty { ending.view.rows ≡ [] }
+    ensures { IsAll (record ending.view { rows = rows_of passes.items }) }
 {
-    let mut entries = entries;
-    let mut rest = rest;
+    let mut ending = ending;
     let mut passes = passes;
     while let Some(pass) = passes.pop() {
-        rest.merge(pass.into_share());
+        ending.take(pass.into_front());
     }
-    entries.audit(&mut rest);
+    ending.close();
 }

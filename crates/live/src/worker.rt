@@ -20,7 +20,6 @@ use machine::command::{Actor, Answer, Command, Reply as Told, Word};
 use machine::refusal::Refusal;
 use std::alloc::AllocError;
 use std::sync::Wait;
-use std::sync::ledger::Ledger;
 use turns::automaton::{ask, holds, let_go, resumes_at, told};
 use turns::turn::{Access, Pending, Resume, Stage, Transition, Want};
 
@@ -46,7 +45,7 @@ fn is_end(event: &Event) -> bool
     )
 }
 
-impl<L: Ledger + Opened, D: SharedDevice> Live<L, D> {
+impl<L: Opened, D: SharedDevice> Live<L, D> {
     /// One event. A page that it hits is marked, if it is to be, once the lock is let go of.
     fn call<R: Wait>(&self, rt: &R, pass: &mut Pass<L>, event: Event, marks: bool) -> Reply
         requires room { 0 < pass.old.room }

@@ -20,9 +20,13 @@ use machine::record::Kind;
 use rings::{Link, RingNode, Rings};
 use std::alloc::{AllocError, Global};
 use std::marker::Model;
+use std::mem::size_of;
 
 // Lists are counted in 31 bits, and each group has eight.
 const MAX_GROUPS: usize = (1 << 28) - 1;
+
+// What the first lines of the crate tell of a group, beside its eight lists of 8 bytes each.
+const _: () = prove!(size_of::<Numbers>() + size_of::<Filled>() == 26);
 
 /// The pages of all groups, on a list for each group, type and generation (kernel: `struct lru_gen_folio`).
 ///

@@ -14,5 +14,3 @@ mod gens;
 mod moving;
 mod numbers;
 mod search;
-#[cfg(test)]
-mod tests;

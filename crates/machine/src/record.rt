@@ -22,7 +22,7 @@ pub struct Task {
 }
 
 /// Which way a page in transfer goes.
-#[derive(Clone, Copy)]
+#[derive(Clone, Copy, PartialEq, Eq)]
 pub enum Direction {
     /// It is being read in.
     In,
@@ -38,7 +38,7 @@ pub enum Kind {
 }
 
 /// What is counted in `memory.events`.
-#[derive(Clone, Copy)]
+#[derive(Clone, Copy, PartialEq, Eq)]
 pub enum Key {
     Low,
     High,

@@ -16,6 +16,4 @@ pub use words::Words;
 mod log;
 mod marks;
 mod seat;
-#[cfg(test)]
-mod tests;
 mod words;

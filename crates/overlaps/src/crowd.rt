@@ -6,20 +6,16 @@ ghost use Rattle.turns.specs.Tickets.{blocks_in};
 
 use crate::gate::{Gate, Manner};
 use files::blocks_for;
-use live::{Live, Opened, Pass, Report, Unfinished, Worker, work_together};
+use live::{Live, Opened, Pass, Report, Roll, Unfinished, Unnamed, Worker, work_together};
 use machine::command::{Actor, Command, Reply};
 use machine::config::Config;
 use scripts::{Mode, Script, read};
 use std::alloc::Global;
 use std::marker::Brand;
 use std::sync::Wait;
-use std::sync::ledger::{Blank, Ledger};
 use std::test::Fail;
 use std::thread::Threads;
 use trace::First;
-
-/// As many passes as there can be, and one part more.
-pub const PARTS: u64 = 131_073;
 
 /// What came of it.
 #[derive(Drop)]
@@ -60,7 +56,7 @@ fn print_all(text: &mut String, answers: &[Reply]) -> Result<(), Fail> {
 }
 
 /// Each command, one after the other, by one pass. What is answered.
-pub fn in_turn<L: Ledger + Opened, R: Wait>(
+pub fn in_turn<L: Opened, R: Wait>(
     rt: &R,
     alloc: Global,
     live: &Live<L, Gate>,
@@ -79,10 +75,11 @@ pub fn in_turn<L: Ledger + Opened, R: Wait>(
 }
 
 /// A worker for commands of one actor.
-fn worker<L: Ledger + Opened, R: Wait>(
+fn worker<L: Opened, R: Wait>(
     rt: &R,
     alloc: Global,
     live: &Live<L, Gate>,
+    roll: &mut Roll<L>,
     asked: Vec<(Actor, Command)>,
 ) -> Result<Worker<L>, Fail> {
     let mut who = Actor::Control;
@@ -93,33 +90,34 @@ fn worker<L: Ledger + Opened, R: Wait>(
         }
         commands.push(command)?;
     }
-    let pass = live.pass(rt)?;
+    let pass = live.pass(rt, roll)?;
     Ok(Worker::new(alloc, who, pass, commands))
 }
 
 /// What is known before the end.
 #[derive(Drop)]
-struct Worked<L: Ledger> {
+struct Worked<L: Opened> {
     before: String,
     rows: Vec<String>,
     behind: String,
     passes: Vec<Pass<L>>,
 }
 
-fn work<L: Ledger + Opened + Send + Sync, R: Threads + Wait + Sync>(
+fn work<L: Opened + Send + Sync, R: Threads + Wait + Sync>(
     rt: &R,
     alloc: Global,
     live: &Live<L, Gate>,
+    roll: &mut Roll<L>,
     before: Vec<(Actor, Command)>,
     rows: Vec<Vec<(Actor, Command)>>,
     behind: Vec<(Actor, Command)>,
 ) -> Result<Worked<L>, Fail> {
-    let mut shell = live.pass(rt)?;
-    let daemon = live.pass(rt)?;
+    let mut shell = live.pass(rt, roll)?;
+    let daemon = live.pass(rt, roll)?;
     let before = in_turn(rt, alloc, live, &mut shell, before)?;
     let mut workers = Vec::new(alloc);
     for asked in rows {
-        workers.push(worker(rt, alloc, live, asked)?)?;
+        workers.push(worker(rt, alloc, live, roll, asked)?)?;
     }
     let (workers, daemon) = work_together(rt, live, workers, daemon);
     let mut rows = Vec::new(alloc);
@@ -142,30 +140,28 @@ fn work<L: Ledger + Opened + Send + Sync, R: Threads + Wait + Sync>(
 }
 
 /// The end of a run: it is refused without one of the passes, which says how many there are, and made with it.
-pub fn finish<L: Ledger + Opened>(
+pub fn finish<L: Opened>(
     live: Live<L, Gate>,
     passes: Vec<Pass<L>>,
+    roll: Roll<L>,
 ) -> Result<(u32, Report), Fail> {
     let mut passes = passes;
     let last = passes.pop();
-    match live.finish(passes) {
+    match live.finish(passes, roll) {
         Ok(_) => Err("finished without a pass".into()),
-        Err((live, mut passes, cause)) => {
+        Err((live, mut passes, Unfinished::PassMissing(given), roll)) => {
             let pushed = match last {
                 Some(pass) => passes.push(pass).is_ok(),
                 None => false,
             };
             if !pushed {
-                live.give_up();
+                live.give_up(roll);
                 return Err("no pass".into());
             }
-            match live.finish(passes) {
-                Ok(report) => match cause {
-                    Unfinished::PassMissing(given) => Ok((given, report)),
-                    Unfinished::NoMemory => Err("no memory".into()),
-                },
-                Err((live, _passes, _cause)) => {
-                    live.give_up();
+            match live.finish(passes, roll) {
+                Ok(report) => Ok((given, report)),
+                Err((live, _passes, _cause, roll)) => {
+                    live.give_up(roll);
                     Err("not finished".into())
                 }
             }
@@ -173,27 +169,26 @@ pub fn finish<L: Ledger + Opened>(
     }
 }
 
-fn run_over<L: Ledger + Opened + Send + Sync, R: Threads + Wait + Sync>(
+fn run_over<L: Opened + Send + Sync, R: Threads + Wait + Sync>(
     rt: &R,
     alloc: Global,
     config: Config,
     gate: Gate,
-    blank: Blank,
+    unnamed: Unnamed,
     before: Vec<(Actor, Command)>,
     rows: Vec<Vec<(Actor, Command)>>,
     behind: Vec<(Actor, Command)>,
 ) -> Result<Ended, Fail>
-    requires name { blank.name ≡ L.name }
-    requires parts { (blank.parts ≡ L.parts) × (blank.parts ≡ 131073) }
+    requires named { unnamed ≡ L.table }
     requires opened { opening_of config ≡ L.opening }
     requires fits { blocks_in L.opening ≤ gate.count }
 {
-    let Ok(live) = Live::<L, Gate>::open(alloc, config, gate, blank) else {
+    let Ok((live, mut roll)) = Live::<L, Gate>::open(alloc, config, gate, unnamed) else {
         return Err("no machine".into());
     };
-    match work(rt, alloc, &live, before, rows, behind) {
+    match work(rt, alloc, &live, &mut roll, before, rows, behind) {
         Err(fail) => {
-            live.give_up();
+            live.give_up(roll);
             Err(fail)
         }
         Ok(worked) => {
@@ -203,7 +198,7 @@ fn run_over<L: Ledger + Opened + Send + Sync, R: Threads + Wait + Sync>(
                 behind,
                 passes,
             } = worked;
-            let (given, report) = finish(live, passes)?;
+            let (given, report) = finish(live, passes, roll)?;
             let Report {
                 trace: _,
                 replies_match,
@@ -244,6 +239,6 @@ pub fn crowd<R: Threads + Wait + Sync>(
         workers.push(asked(alloc, lines)?)?;
     }
     let behind = asked(alloc, behind)?;
-    let blank = Blank::new(PARTS);
-    run_over::<Brand, R>(rt, alloc, config, gate, blank, setup, workers, behind)
+    let unnamed = Unnamed::new(alloc)?;
+    run_over::<Brand, R>(rt, alloc, config, gate, unnamed, setup, workers, behind)
 }

@@ -14,7 +14,7 @@ const MOST_TURNS: u64 = 100_000_000;
 const A_WHILE: u64 = 1_000_000;
 
 /// What the device does beside reading and writing.
-#[derive(Clone, Copy)]
+#[derive(Clone, Copy, PartialEq, Eq)]
 pub enum Manner {
     Plain,
     /// The first read is held until a second one has begun.

@@ -4,17 +4,16 @@ ghost use Rattle.std.specs.Prelude.{◌≡◌, ◌≤◌};
 ghost use Rattle.machine.specs.State.{opening_of};
 ghost use Rattle.turns.specs.Tickets.{blocks_in};
 
-use crate::crowd::{PARTS, asked, finish, in_turn};
+use crate::crowd::{asked, finish, in_turn};
 use crate::gate::{Gate, Manner, Signals};
 use files::blocks_for;
-use live::{Live, Opened, Pass, Report};
+use live::{Live, Opened, Pass, Report, Roll, Unnamed};
 use machine::command::{Actor, Command};
 use machine::config::Config;
 use scripts::{Mode, Script, read};
 use std::alloc::Global;
 use std::marker::Brand;
 use std::sync::Wait;
-use std::sync::ledger::{Blank, Ledger};
 use std::test::Fail;
 use std::thread;
 use std::thread::Threads;
@@ -24,7 +23,7 @@ const USED: &str =
     "frames 4\nswap 4\nwatermarks 2 3\ngroup /a\ntask 1 /a\n1 write 0 0 1\n1 write 1 0 1\n1 write 2 0 1\n";
 
 /// When the daemon is told to end.
-#[derive(Clone, Copy)]
+#[derive(Clone, Copy, PartialEq, Eq)]
 enum When {
     /// Before it begins.
     Before,
@@ -33,7 +32,7 @@ enum When {
 }
 
 /// The daemon runs until it has ended. Whether it was told to when it was to be told.
-fn run_daemon<L: Ledger + Opened + Send + Sync, R: Threads + Wait + Sync>(
+fn run_daemon<L: Opened + Send + Sync, R: Threads + Wait + Sync>(
     rt: &R,
     live: &Live<L, Gate>,
     signals: &Signals,
@@ -61,17 +60,18 @@ fn run_daemon<L: Ledger + Opened + Send + Sync, R: Threads + Wait + Sync>(
 }
 
 /// What is answered behind the daemon's end.
-fn work<L: Ledger + Opened + Send + Sync, R: Threads + Wait + Sync>(
+fn work<L: Opened + Send + Sync, R: Threads + Wait + Sync>(
     rt: &R,
     alloc: Global,
     live: &Live<L, Gate>,
+    roll: &mut Roll<L>,
     signals: &Signals,
     when: When,
     before: Vec<(Actor, Command)>,
     behind: Vec<(Actor, Command)>,
 ) -> Result<(String, Vec<Pass<L>>), Fail> {
-    let mut shell = live.pass(rt)?;
-    let daemon = live.pass(rt)?;
+    let mut shell = live.pass(rt, roll)?;
+    let daemon = live.pass(rt, roll)?;
     in_turn(rt, alloc, live, &mut shell, before)?;
     let (daemon, is_told) = run_daemon(rt, live, signals, when, daemon);
     if !is_told {
@@ -84,32 +84,31 @@ fn work<L: Ledger + Opened + Send + Sync, R: Threads + Wait + Sync>(
     Ok((answers, passes))
 }
 
-fn run_over<L: Ledger + Opened + Send + Sync, R: Threads + Wait + Sync>(
+fn run_over<L: Opened + Send + Sync, R: Threads + Wait + Sync>(
     rt: &R,
     alloc: Global,
     config: Config,
     gate: Gate,
-    blank: Blank,
+    unnamed: Unnamed,
     when: When,
     before: Vec<(Actor, Command)>,
     behind: Vec<(Actor, Command)>,
 ) -> Result<String, Fail>
-    requires name { blank.name ≡ L.name }
-    requires parts { (blank.parts ≡ L.parts) × (blank.parts ≡ 131073) }
+    requires named { unnamed ≡ L.table }
     requires opened { opening_of config ≡ L.opening }
     requires fits { blocks_in L.opening ≤ gate.count }
 {
     let signals = gate.signals()?;
-    let Ok(live) = Live::<L, Gate>::open(alloc, config, gate, blank) else {
+    let Ok((live, mut roll)) = Live::<L, Gate>::open(alloc, config, gate, unnamed) else {
         return Err("no machine".into());
     };
-    match work(rt, alloc, &live, &signals, when, before, behind) {
+    match work(rt, alloc, &live, &mut roll, &signals, when, before, behind) {
         Err(fail) => {
-            live.give_up();
+            live.give_up(roll);
             Err(fail)
         }
         Ok((answers, passes)) => {
-            let (_given, report) = finish(live, passes)?;
+            let (_given, report) = finish(live, passes, roll)?;
             let Report {
                 trace: _,
                 replies_match,
@@ -141,8 +140,8 @@ fn stopped<R: Threads + Wait + Sync>(
     };
     let gate = Gate::new(alloc, blocks, manner)?;
     let behind = asked(alloc, behind)?;
-    let blank = Blank::new(PARTS);
-    run_over::<Brand, R>(rt, alloc, config, gate, blank, when, setup, behind)
+    let unnamed = Unnamed::new(alloc)?;
+    run_over::<Brand, R>(rt, alloc, config, gate, unnamed, when, setup, behind)
 }
 
 const LOOKS: &str = "cat /a memory.current\n1 read 0 0\n";

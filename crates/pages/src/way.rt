@@ -1,7 +1,7 @@
 //! How pages leave their frames.
 
 /// How a page in a frame would leave it for good (kernel: shrink_folio_list).
-#[derive(Clone, Copy)]
+#[derive(Clone, Copy, PartialEq, Eq)]
 pub enum WayOut {
     /// Memory of tasks: it is written to a swap block.
     ToSwap,

@@ -14,5 +14,3 @@ mod end;
 mod links;
 mod ring_node;
 mod table;
-#[cfg(test)]
-mod tests;

@@ -6,6 +6,7 @@ ghost use Rattle.rings.specs.RingNodes.{page_of, IsCounted};
 use crate::end::End;
 use machine::id::PageId;
 use std::marker::Model;
+use std::mem::size_of;
 
 /// A list. Lists are numbered from 0 on, in the order in which they were added.
 #[derive(Clone, Copy, PartialEq, Eq)]
@@ -38,6 +39,13 @@ pub struct Link {
     prev: End,
     next: End,
 }
+
+// The sizes that the first lines of the crate tell.
+const _: () = prove!(size_of::<RingNode>() == 8);
+
+const _: () = prove!(size_of::<Link>() == 8);
+
+const _: () = prove!(size_of::<Option<Link>>() == 12);
 
 impl Model for Link {
     ghost use Rattle.rings.specs.RingNodes.{LinkOf};

@@ -8,7 +8,7 @@ use machine::command::Actor;
 use machine::limit::{LAST_NUMBER, MOST_ENTRIES, MOST_FRAMES, MOST_SWAP};
 
 /// Who says a word.
-#[derive(Clone, Copy)]
+#[derive(Clone, Copy, PartialEq, Eq)]
 pub enum Speaker {
     /// The shell: the word stands first.
     Shell,
@@ -36,7 +36,7 @@ pub enum Kind {
 }
 
 /// How a line stands.
-#[derive(Clone, Copy)]
+#[derive(Clone, Copy, PartialEq, Eq)]
 pub enum Manner {
     /// By itself.
     Whole,
@@ -45,7 +45,7 @@ pub enum Manner {
 }
 
 /// A call of the device.
-#[derive(Clone, Copy)]
+#[derive(Clone, Copy, PartialEq, Eq)]
 pub enum DeviceCall {
     Read,
     Write,

@@ -8,15 +8,11 @@ use crate::hunt::Hunt;
 use block_store::{Locked, MemDevice, SharedDevice};
 use driver::{Answer, Command, Config, Reply};
 use files::blocks_for;
-use live::{Live, Opened, Pass, Unfinished};
+use live::{Live, Opened, Pass, Roll, Unnamed};
 use machine::refusal::Refusal;
 use std::alloc::Global;
 use std::marker::Brand;
 use std::sync::Wait;
-use std::sync::ledger::{Blank, Ledger};
-
-/// As many passes as there can be, and one part more.
-const PARTS: u64 = 131_073;
 
 /// Entries of the commands: a group that is made.
 const ENTRIES: usize = 1;
@@ -65,58 +61,69 @@ fn try_work<R: Wait>(rt: &R, hunt: &mut Hunt, crew: Crew) -> bool {
     let device = Locked::new(device);
     match blocks_for(&config) {
         Some(blocks) if blocks <= device.blocks() => {
-            open::<Brand, Locked<MemDevice>, R>(
-                rt,
-                hunt,
-                config,
-                device,
-                &commands,
-                Blank::new(PARTS),
-            )
+            match history(hunt) {
+                Some(unnamed) => {
+                    open::<Brand, Locked<MemDevice>, R>(
+                        rt, hunt, config, device, &commands, unnamed,
+                    )
+                }
+                None => false,
+            }
         }
         _ => false,
     }
 }
 
-fn open<L: Ledger + Opened, D: SharedDevice + Drop, R: Wait>(
+/// The history of what the machine's workers are told.
+fn history(hunt: &mut Hunt) -> Option<Unnamed> {
+    match Unnamed::new(hunt.alloc()) {
+        Ok(unnamed) => Some(unnamed),
+        Err(_) => {
+            hunt.refused("live history");
+            Unnamed::new(hunt.alloc()).ok()
+        }
+    }
+}
+
+fn open<L: Opened, D: SharedDevice + Drop, R: Wait>(
     rt: &R,
     hunt: &mut Hunt,
     config: Config,
     device: D,
     commands: &[Command],
-    blank: Blank,
+    unnamed: Unnamed,
 ) -> bool
-    requires name { blank.name ≡ L.name }
-    requires parts { (blank.parts ≡ L.parts) × (blank.parts ≡ 131073) }
+    requires named { unnamed ≡ L.table }
     requires opened { opening_of config ≡ L.opening }
     requires fits { blocks_in L.opening ≤ D.extent device }
 {
-    match Live::<L, D>::open(hunt.alloc(), config, device, blank) {
+    match Live::<L, D>::open(hunt.alloc(), config, device, unnamed) {
         Err((_, cause)) => {
             hunt.demand(cause == Refusal::NoMemory, "an opening has another cause");
             false
         }
-        Ok(live) => {
-            let passes = ask(rt, hunt, &live, commands);
-            finish(hunt, live, passes);
+        Ok((live, mut roll)) => {
+            let passes = ask(rt, hunt, &live, &mut roll, commands);
+            finish(hunt, live, passes, roll);
             true
         }
     }
 }
 
 /// A pass for the shell, which asks. All passes.
-fn ask<L: Ledger + Opened, D: SharedDevice + Drop, R: Wait>(
+fn ask<L: Opened, D: SharedDevice + Drop, R: Wait>(
     rt: &R,
     hunt: &mut Hunt,
     live: &Live<L, D>,
+    roll: &mut Roll<L>,
     commands: &[Command],
 ) -> Vec<Pass<L>> {
     let mut passes = list(hunt);
-    let given = match live.pass(rt) {
+    let given = match live.pass(rt, roll) {
         Ok(pass) => Ok(pass),
         Err(_) => {
             hunt.refused("live pass");
-            live.pass(rt)
+            live.pass(rt, roll)
         }
     };
     if let Ok(mut pass) = given {
@@ -132,7 +139,7 @@ fn ask<L: Ledger + Opened, D: SharedDevice + Drop, R: Wait>(
 }
 
 /// Room for the pass.
-fn list<L: Ledger>(hunt: &mut Hunt) -> Vec<Pass<L>> {
+fn list<L: Opened>(hunt: &mut Hunt) -> Vec<Pass<L>> {
     let mut passes = Vec::new(hunt.alloc());
     if passes.reserve(1).is_err() {
         hunt.refused("list of passes");
@@ -154,7 +161,7 @@ fn are_done(replies: &[Reply]) -> bool {
 }
 
 /// Whether each command is done.
-fn is_done<L: Ledger + Opened, D: SharedDevice + Drop, R: Wait>(
+fn is_done<L: Opened, D: SharedDevice + Drop, R: Wait>(
     rt: &R,
     live: &Live<L, D>,
     pass: &mut Pass<L>,
@@ -167,32 +174,22 @@ fn is_done<L: Ledger + Opened, D: SharedDevice + Drop, R: Wait>(
 }
 
 /// The end: the trace is what the pass keeps, and its audit finds nothing wrong.
-fn finish<L: Ledger + Opened, D: SharedDevice + Drop>(
+fn finish<L: Opened, D: SharedDevice + Drop>(
     hunt: &mut Hunt,
     live: Live<L, D>,
     passes: Vec<Pass<L>>,
+    roll: Roll<L>,
 ) {
-    let ended = match live.finish(passes) {
-        Ok(report) => Ok(report),
-        Err((live, passes, cause)) => {
-            hunt.demand(
-                cause == Unfinished::NoMemory,
-                "an end is refused for another cause",
-            );
-            hunt.refused("live finish");
-            live.finish(passes)
-        }
-    };
-    match ended {
+    match live.finish(passes, roll) {
         Ok(report) => {
             let is_whole = report.replies_match
                 && report.audit.is_ok()
                 && report.trace.len() == ENTRIES;
             hunt.demand(is_whole, "a report is not of what was done");
         }
-        Err((live, _, _)) => {
-            live.give_up();
-            hunt.demand(false, "an end is refused again");
+        Err((live, _, _, roll)) => {
+            live.give_up(roll);
+            hunt.demand(false, "an end is refused");
         }
     }
 }

@@ -12,7 +12,7 @@ use machine::record::{Guard, OomGroup};
 use std::alloc::{AllocError, Global};
 
 /// A machine, and what it is asked.
-#[derive(Clone, Copy)]
+#[derive(Clone, Copy, PartialEq, Eq)]
 pub enum Plan {
     /// Four groups, the root among them, so that what is kept by group is just full. Each event is asked.
     Few,

@@ -14,6 +14,7 @@ mod slow;
 use block_store::{Locked, MemDevice};
 use driver::{Steps, run_into};
 use files::blocks_for;
+use live::Unnamed;
 use scripts::{Mode, Script, each_actor_has_its_row, read};
 use slow::Slow;
 use std::alloc::Global;
@@ -23,14 +24,10 @@ use std::marker::Brand;
 use std::process::ExitCode;
 use std::rt::{Env, Files};
 use std::sync::Wait;
-use std::sync::ledger::Blank;
 use std::thread::Threads;
 use std::time::{Clock, Duration};
 use std::{env, io};
 use subcommands::{Fault, Verdict, read_script, run_over, status_of, status_of_run};
-
-/// As many passes as there can be, and one part more.
-const PARTS: u64 = 131_073;
 
 fn out_of_memory() -> Fault {
     Fault::Unreadable(ErrorKind::OutOfMemory.into())
@@ -97,14 +94,10 @@ fn run_new<R: Clock + Threads + Wait + Sync, O: Write>(
         Err(_) => return Err(out_of_memory()),
     };
     let device = Slow::new(rt, call, device);
-    run_over::<Brand, Slow<'_, R, Locked<MemDevice>>, R, O>(
-        rt,
-        alloc,
-        script,
-        device,
-        Blank::new(PARTS),
-        out,
-    )
+    let Ok(unnamed) = Unnamed::new(alloc) else {
+        return Err(out_of_memory());
+    };
+    run_over::<Brand, Slow<'_, R, Locked<MemDevice>>, R, O>(rt, alloc, script, device, unnamed, out)
 }
 
 fn run<R: Clock + Threads + Wait + Sync, O: Write>(

@@ -1,5 +1,5 @@
 -- The rounds of a run, one behind the other.
-use Rattle.std.proofs.Common.{◌≡◌, ℕ, suc, ◌≤◌, Bool, true, false, List, [], ◌∷◌, ◌++◌, Option, length, map, take, drop, refl, sym, ap, ◌∙◌, subst, append_assoc, arith}
+use Rattle.std.proofs.Common.{◌≡◌, ℕ, suc, ◌+◌, ◌≤◌, Bool, true, false, List, [], ◌∷◌, ◌++◌, Option, length, map, take, drop, refl, sym, ap, ◌∙◌, subst, append_assoc, length-append, arith}
 use Rattle.std.specs.Prelude.{◌≢◌, if◌then◌else◌, Contains, Ok}
 use Rattle.std.specs.Io.KnownBytes.{Appends}
 use Rattle.std.proofs.KnownBytes.{Appends-nil, Appends-trans}
@@ -128,6 +128,15 @@ jobs-worked marks [] (v ∷ vs) h = ap (λ (us : List WorkerOf). jobs_of us) h
 jobs-worked marks (w ∷ ws) [] h = absurd h
 jobs-worked marks (w ∷ ws) (v ∷ vs) (did, rest) =
     same_cons (v.actor, v.commands) (w.actor, w.commands) _ _ (ap (λ (a : Actor). (a, v.commands)) did.actor ∙ ap (λ (cs : List Command). (w.actor, cs)) did.commands) (jobs-worked marks ws vs rest)
+
+-- those who were there are there still, behind lines that were set up
+length-workers : (ws : List WorkerOf) → length (jobs_of ws) ≡ length ws
+length-workers [] = refl
+length-workers (w ∷ ws) = ap suc (length-workers ws)
+
+pub set_up-more : (marks : Watermarks) (setup : List Line) (old new : List WorkerOf) (a b : Option (List ℕ)) (count : ℕ) → SetsUp marks setup old new a b → count ≡ length old → count ≤ length new
+set_up-more marks setup old new a b count sets is =
+    omega (arith, ap length sets.jobs, length-append (jobs_of old) sets.more, length-workers old, length-workers new, is)
 
 -- what is behind a run, but for its trace
 module _ (marks : Watermarks) (setup : List Line) (rows : List Job) (hired ready workers others worked : List WorkerOf) (a b c : Option (List ℕ)) (all : HiredAll rows hired) (sets : SetsUp marks setup hired ready a b)

@@ -5,23 +5,22 @@ ghost use Rattle.subcommands.specs.Crews.{numbers_at, place_of, Hires, Asked};
 
 use block_store::SharedDevice;
 use indexmap::IndexSet;
-use live::{Live, Opened, Pass, Worker};
+use live::{Live, Opened, Pass, Roll, Worker};
 use machine::command::{Actor, Command, Reply};
 use scripts::number_of;
 use std::alloc::{AllocError, Global};
 use std::sync::Wait;
-use std::sync::ledger::Ledger;
 
 /// The workers, in order of their coming, and the numbers of their actors, so that an actor's place is looked up and not
 /// looked for.
 #[derive(Drop)]
-pub struct Crew<L: Ledger> {
+pub struct Crew<L: Opened> {
     pub workers: Vec<Worker<L>>,
     numbers: IndexSet<u64>,
     ghost numbered: { numbers.keys ≡ numbers_at workers.items },
 }
 
-impl<L: Ledger> Crew<L> {
+impl<L: Opened> Crew<L> {
     /// Nobody.
     pub fn new(alloc: Global) -> Self
         ensures { result.workers.items ≡ [] }
@@ -73,20 +72,21 @@ impl<L: Ledger> Crew<L> {
     }
 }
 
-impl<L: Ledger + Opened> Crew<L> {
+impl<L: Opened> Crew<L> {
     /// A worker with a pass of its own, of an actor who has none, for these commands.
     pub fn hire<D: SharedDevice, R: Wait>(
         &mut self,
         rt: &R,
         alloc: Global,
         live: &Live<L, D>,
+        roll: &mut Roll<L>,
         actor: Actor,
         commands: Vec<Command>,
     ) -> Result<(), AllocError>
         requires { place_of actor self.old.workers.items ≡ length self.old.workers.items }
         ensures { OnOk result (Hires actor commands.items self.old.workers.items self.new.workers.items) }
     {
-        let pass = new_pass(rt, live)?;
+        let pass = new_pass(rt, live, roll)?;
         self.add(actor, Worker::new(alloc, actor, pass, commands))
     }
 
@@ -96,6 +96,7 @@ impl<L: Ledger + Opened> Crew<L> {
         rt: &R,
         alloc: Global,
         live: &Live<L, D>,
+        roll: &mut Roll<L>,
         actor: Actor,
     ) -> Result<usize, AllocError>
         ensures placed { IfOk result (λ place. (place ≡ place_of actor self.new.workers.items) × (place < length self.new.workers.items)) }
@@ -105,7 +106,7 @@ impl<L: Ledger + Opened> Crew<L> {
             return Ok(place);
         }
         let place = self.workers.len();
-        self.hire(rt, alloc, live, actor, Vec::new(alloc))?;
+        self.hire(rt, alloc, live, roll, actor, Vec::new(alloc))?;
         Ok(place)
     }
 
@@ -115,12 +116,13 @@ impl<L: Ledger + Opened> Crew<L> {
         rt: &R,
         alloc: Global,
         live: &Live<L, D>,
+        roll: &mut Roll<L>,
         actor: Actor,
         command: Command,
     ) -> Result<Vec<Reply>, AllocError>
         ensures { IfOk result (λ answers. Asked L.opening.watermarks actor command self.old.workers.items self.new.workers.items answers.items) }
     {
-        let place = self.place(rt, alloc, live, actor)?;
+        let place = self.place(rt, alloc, live, roll, actor)?;
         match self.workers[place].answer(rt, live, command) {
             Ok(answers) => Ok(answers),
             Err(_) => Err(AllocError),
@@ -129,13 +131,14 @@ impl<L: Ledger + Opened> Crew<L> {
 }
 
 /// A pass more. It fails for want of memory: no script names so many actors as there can be passes.
-pub fn new_pass<L: Ledger + Opened, D: SharedDevice, R: Wait>(
+pub fn new_pass<L: Opened, D: SharedDevice, R: Wait>(
     rt: &R,
     live: &Live<L, D>,
+    roll: &mut Roll<L>,
 ) -> Result<Pass<L>, AllocError>
     ensures { IfOk result (λ pass. pass.kept ≡ []) }
 {
-    match live.pass(rt) {
+    match live.pass(rt, roll) {
         Ok(pass) => Ok(pass),
         Err(_) => Err(AllocError),
     }

@@ -22,7 +22,7 @@ use crate::device::new_device;
 use crate::fault::{Fault, Wanted};
 use crate::{faulty, read_script, status_of, unwritten};
 use block_store::{Locked, MemDevice, SharedDevice};
-use live::{Live, Opened, Pass, Report, Unfinished, Worker, work_together};
+use live::{Live, Opened, Pass, Report, Roll, Unfinished, Unnamed, Worker, work_together};
 use machine::command::{Actor, Command, Reply};
 use machine::config::Config;
 use printer::{Options, write_bytes};
@@ -32,13 +32,9 @@ use std::io;
 use std::io::{Read, Write};
 use std::marker::Brand;
 use std::sync::Wait;
-use std::sync::ledger::{Blank, Ledger};
 use std::thread::Threads;
 
 const FAILED: u8 = 1;
-
-/// As many passes as there can be, and one part more.
-const PARTS: u64 = 131_073;
 
 /// What is said at the end of a run.
 #[derive(Clone, Copy, Debug, PartialEq, Eq)]
@@ -99,10 +95,11 @@ fn print_answers<O: Write>(alloc: Global, answers: &[Reply], out: &mut O) -> io:
 }
 
 /// A worker for each row, in their order.
-fn hire_all<L: Ledger + Opened, D: SharedDevice, R: Wait>(
+fn hire_all<L: Opened, D: SharedDevice, R: Wait>(
     rt: &R,
     alloc: Global,
     live: &Live<L, D>,
+    roll: &mut Roll<L>,
     work: Vec<(Actor, Vec<Command>)>,
 ) -> Result<Crew<L>, AllocError>
     requires { IsStrictlyIncreasing (numbers_of (shown_rows work.items)) }
@@ -110,16 +107,17 @@ fn hire_all<L: Ledger + Opened, D: SharedDevice, R: Wait>(
 {
     let mut crew = Crew::new(alloc);
     for (actor, commands) in work {
-        crew.hire(rt, alloc, live, actor, commands)?;
+        crew.hire(rt, alloc, live, roll, actor, commands)?;
     }
     Ok(crew)
 }
 
 /// One line of what stands before the threads go.
-fn set_up_one<L: Ledger + Opened, D: SharedDevice, R: Wait, O: Write>(
+fn set_up_one<L: Opened, D: SharedDevice, R: Wait, O: Write>(
     rt: &R,
     alloc: Global,
     live: &Live<L, D>,
+    roll: &mut Roll<L>,
     crew: &mut Crew<L>,
     wanted: Wanted,
     actor: Actor,
@@ -129,7 +127,7 @@ fn set_up_one<L: Ledger + Opened, D: SharedDevice, R: Wait, O: Write>(
     ensures whole { OnOk result (SetsUp L.opening.watermarks ((actor, command) ∷ []) crew.old.workers.items crew.new.workers.items (O.contents out.old) (O.contents out.new)) }
     ensures why { IfErr result IsRunFault }
 {
-    match crew.ask(rt, alloc, live, actor, command) {
+    match crew.ask(rt, alloc, live, roll, actor, command) {
         Err(AllocError) => Err(Fault::Memory(wanted)),
         Ok(answers) => match print_answers(alloc, &answers, out) {
             Ok(()) => Ok(()),
@@ -139,10 +137,11 @@ fn set_up_one<L: Ledger + Opened, D: SharedDevice, R: Wait, O: Write>(
 }
 
 /// What stands before the threads go is done, one after the other, and what it answers is written at once.
-fn set_up<L: Ledger + Opened, D: SharedDevice, R: Wait, O: Write>(
+fn set_up<L: Opened, D: SharedDevice, R: Wait, O: Write>(
     rt: &R,
     alloc: Global,
     live: &Live<L, D>,
+    roll: &mut Roll<L>,
     crew: &mut Crew<L>,
     wanted: Wanted,
     setup: Vec<(Actor, Command)>,
@@ -152,13 +151,13 @@ fn set_up<L: Ledger + Opened, D: SharedDevice, R: Wait, O: Write>(
     ensures why { IfErr result IsRunFault }
 {
     for (actor, command) in setup {
-        set_up_one(rt, alloc, live, crew, wanted, actor, command, out)?;
+        set_up_one(rt, alloc, live, roll, crew, wanted, actor, command, out)?;
     }
     Ok(())
 }
 
 /// Writes what a worker answered. It fails, too, where there was no memory for its answers.
-fn print_row<L: Ledger, O: Write>(
+fn print_row<L: Opened, O: Write>(
     alloc: Global,
     wanted: Wanted,
     worker: &Worker<L>,
@@ -177,7 +176,7 @@ fn print_row<L: Ledger, O: Write>(
 }
 
 /// The same of workers, one behind the other.
-fn print_rows<L: Ledger, O: Write>(
+fn print_rows<L: Opened, O: Write>(
     alloc: Global,
     wanted: Wanted,
     workers: &[Worker<L>],
@@ -193,7 +192,7 @@ fn print_rows<L: Ledger, O: Write>(
 }
 
 /// Adds the workers' passes.
-fn add_passes<L: Ledger>(
+fn add_passes<L: Opened>(
     passes: &mut Vec<Pass<L>>,
     workers: Vec<Worker<L>>,
 ) -> Result<(), AllocError>
@@ -206,7 +205,7 @@ fn add_passes<L: Ledger>(
 }
 
 /// All passes, the daemon's last.
-fn all_passes<L: Ledger>(
+fn all_passes<L: Opened>(
     alloc: Global,
     workers: Vec<Worker<L>>,
     others: Vec<Worker<L>>,
@@ -223,15 +222,11 @@ fn all_passes<L: Ledger>(
 
 /// All that workers do: what stands before the threads go, and then all rows at once with the daemon beside them. It
 /// hands out their passes.
-fn work_all<
-    L: Ledger + Opened + Send + Sync,
-    D: SharedDevice + Sync,
-    R: Threads + Wait + Sync,
-    O: Write,
->(
+fn work_all<L: Opened + Send + Sync, D: SharedDevice + Sync, R: Threads + Wait + Sync, O: Write>(
     rt: &R,
     alloc: Global,
     live: &Live<L, D>,
+    roll: &mut Roll<L>,
     wanted: Wanted,
     setup: Vec<(Actor, Command)>,
     work: Vec<(Actor, Vec<Command>)>,
@@ -241,14 +236,14 @@ fn work_all<
     ensures whole { IfOk result (λ passes. Ran L.opening.watermarks setup.items (shown_rows work.items) passes.items (O.contents out.old) (O.contents out.new)) }
     ensures why { IfErr result IsRunFault }
 {
-    let Ok(mut crew) = hire_all(rt, alloc, live, work) else {
+    let Ok(mut crew) = hire_all(rt, alloc, live, roll, work) else {
         return Err(Fault::Memory(wanted));
     };
-    let Ok(daemon) = new_pass(rt, live) else {
+    let Ok(daemon) = new_pass(rt, live, roll) else {
         return Err(Fault::Memory(wanted));
     };
     let rows = crew.len();
-    set_up(rt, alloc, live, &mut crew, wanted, setup, out)?;
+    set_up(rt, alloc, live, roll, &mut crew, wanted, setup, out)?;
     let Ok((workers, others)) = crew.split(rows) else {
         return Err(Fault::Memory(wanted));
     };
@@ -277,32 +272,30 @@ fn say<O: Write>(
 }
 
 /// Ends a run: its verdict, which is written.
-fn conclude<L: Ledger + Opened, D: SharedDevice + Drop, O: Write>(
+fn conclude<L: Opened, D: SharedDevice + Drop, O: Write>(
     alloc: Global,
     live: Live<L, D>,
     wanted: Wanted,
     passes: Vec<Pass<L>>,
+    roll: Roll<L>,
     out: &mut O,
 ) -> Result<Verdict, Fault>
     ensures whole { IfOk result (λ verdict. Concluded L.opening passes.items verdict (O.contents out.old) (O.contents out.new)) }
     ensures why { IfErr result IsRunFault }
 {
-    match live.finish(passes) {
+    match live.finish(passes, roll) {
         Ok(report) => say(alloc, wanted, verdict_of(&report), out),
-        Err((live, _passes, cause)) => {
-            live.give_up();
-            match cause {
-                Unfinished::NoMemory => Err(Fault::Memory(wanted)),
-                // All passes are there, and no worker ends with a ticket out.
-                Unfinished::PassMissing(_) => say(alloc, wanted, Verdict::Differ, out),
-            }
+        // All passes are there, and no worker ends with a ticket out.
+        Err((live, _passes, Unfinished::PassMissing(_), roll)) => {
+            live.give_up(roll);
+            say(alloc, wanted, Verdict::Differ, out)
         }
     }
 }
 
 /// The same, without a last flush.
 fn run_live<
-    L: Ledger + Opened + Send + Sync,
+    L: Opened + Send + Sync,
     D: SharedDevice + Sync + Drop,
     R: Threads + Wait + Sync,
     O: Write,
@@ -310,6 +303,7 @@ fn run_live<
     rt: &R,
     alloc: Global,
     live: Live<L, D>,
+    roll: Roll<L>,
     wanted: Wanted,
     setup: Vec<(Actor, Command)>,
     work: Vec<(Actor, Vec<Command>)>,
@@ -319,10 +313,11 @@ fn run_live<
     ensures whole { IfOk result (λ verdict. RanAll L.opening setup.items (shown_rows work.items) verdict (O.contents out.old) (O.contents out.new)) }
     ensures why { IfErr result IsRunFault }
 {
-    match work_all(rt, alloc, &live, wanted, setup, work, out) {
-        Ok(passes) => conclude(alloc, live, wanted, passes, out),
+    let mut roll = roll;
+    match work_all(rt, alloc, &live, &mut roll, wanted, setup, work, out) {
+        Ok(passes) => conclude(alloc, live, wanted, passes, roll, out),
         Err(fault) => {
-            live.give_up();
+            live.give_up(roll);
             Err(fault)
         }
     }
@@ -333,10 +328,10 @@ fn run_live<
 /// thread of its own, with the daemon beside them, and the answers are written row by row; then what the trace of all
 /// that says in one line.
 ///
-/// `L` tells what the machine was opened with, and names the ledger of its entries; the proof of a call at `Brand`
-/// picks both.
+/// `L` tells what the machine was opened with, and which history has what its workers are told; the proof of a call at
+/// `Brand` picks both.
 pub fn run_over<
-    L: Ledger + Opened + Send + Sync,
+    L: Opened + Send + Sync,
     D: SharedDevice + Sync + Drop,
     R: Threads + Wait + Sync,
     O: Write,
@@ -345,11 +340,10 @@ pub fn run_over<
     alloc: Global,
     script: Script,
     device: D,
-    blank: Blank,
+    unnamed: Unnamed,
     out: &mut O,
 ) -> Result<Verdict, Fault>
-    requires name { blank.name ≡ L.name }
-    requires parts { (blank.parts ≡ L.parts) × (blank.parts ≡ 131073) }
+    requires named { unnamed ≡ L.table }
     requires opened { opening_of script.config ≡ L.opening }
     requires fits { blocks_in L.opening ≤ D.extent device }
     requires rows { IsStrictlyIncreasing (numbers_of (shown_rows script.work.items)) }
@@ -363,10 +357,10 @@ pub fn run_over<
         ..
     } = script;
     let wanted = Wanted::of(&config, device.blocks());
-    let Ok(live) = Live::<L, D>::open(alloc, config, device, blank) else {
+    let Ok((live, roll)) = Live::<L, D>::open(alloc, config, device, unnamed) else {
         return Err(Fault::Memory(wanted));
     };
-    let ran = run_live(rt, alloc, live, wanted, setup, work, out);
+    let ran = run_live(rt, alloc, live, roll, wanted, setup, work, out);
     let flushed = out.flush();
     match ran {
         Err(fault) => Err(fault),
@@ -399,7 +393,11 @@ fn run_new<R: Threads + Wait + Sync, O: Write>(
         Ok(device) => Locked::new(device),
         Err(wanted) => return Err(Fault::Memory(wanted)),
     };
-    run_over::<Brand, Locked<MemDevice>, R, O>(rt, alloc, script, device, Blank::new(PARTS), out)
+    let Ok(unnamed) = Unnamed::new(alloc) else {
+        let wanted = Wanted::of(&script.config, device.blocks());
+        return Err(Fault::Memory(wanted));
+    };
+    run_over::<Brand, Locked<MemDevice>, R, O>(rt, alloc, script, device, unnamed, out)
 }
 
 /// Runs a script that was read on threads, over a new device, which has the blocks that the script asks for, and

@@ -88,6 +88,14 @@ impl Trace {
         self.heads.reserve(task)
     }
 
+    /// Gives back the memory for the links of a task that has ended otherwise than by an entry that names it: a kill of
+    /// a group names its victim alone. The trace stays the same.
+    pub fn release(&mut self, task: TaskId)
+        ensures { self.new ≡ self.old }
+    {
+        self.heads.ended(task);
+    }
+
     /// One entry more, at the end. It takes no memory.
     pub fn push(&mut self, entry: Entry)
         requires { length self.old.entries < self.old.limit }

@@ -140,7 +140,7 @@ impl Heads {
     }
 
     /// The memory of a task's pages goes.
-    fn ended(&mut self, task: TaskId)
+    pub fn ended(&mut self, task: TaskId)
         ensures { (p : PageOf) → MayBe (known_in self.new p) (known_in self.old p) }
     {
         put_row(&mut self.tasks, task.0, Row::empty(self.alloc));

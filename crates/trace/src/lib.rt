@@ -22,5 +22,3 @@ mod link;
 mod page;
 mod row;
 mod step;
-#[cfg(test)]
-mod tests;

@@ -7,6 +7,7 @@ use crate::page::{Page, offset_of, page_of};
 use machine::entry::Entry;
 use machine::event::{Event, Op};
 use machine::reply::Reply;
+use std::mem::size_of;
 
 /// What is known of the bytes of a page before an entry.
 #[derive(Clone, Copy)]
@@ -18,6 +19,8 @@ pub enum Link {
     /// They are those that the page of this entry's access had after it.
     After(u32),
 }
+
+const _: () = prove!(size_of::<Link>() == 8);
 
 /// A byte that an entry wrote to its page.
 #[derive(Clone, Copy)]

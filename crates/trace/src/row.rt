@@ -7,6 +7,7 @@ ghost use Rattle.trace.specs.Rows.{at_row, empty_row};
 use crate::link::Link;
 use std::alloc::{AllocError, Global};
 use std::marker::Model;
+use std::mem::size_of;
 
 /// By page what is known. The first pages have links of their own, up to the furthest that was set; of all pages
 /// behind them the same is known. So no link is written when a row is made or filled, and a copy is of the written
@@ -18,6 +19,8 @@ pub struct Row {
     /// What is known of each page behind these.
     rest: Link,
 }
+
+const _: () = prove!(size_of::<Row>() == 32);
 
 impl Model for Row {
     ghost use Rattle.trace.specs.Rows.{RowOf};

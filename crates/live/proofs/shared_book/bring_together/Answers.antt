@@ -1,18 +1,25 @@
-use Rattle.std.proofs.Common.{rules, arith, length-append, ap, ◌≡◌, ◌∷◌, [], length}
-use Rattle.std.specs.List.{sum_by}
-use Rattle.std.proofs.lemmas.List.Sums.{sum_by_push}
-use Rattle.book.specs.Passes.{PassOf, count_of}
+use Rattle.std.proofs.Common.{◌≡◌, ◌∙◌, sym, ap, [], ◌∷◌, ◌++◌, List}
+use Rattle.live.specs.declared.history.Row.{Row}
+use Rattle.live.specs.declared.history.View.{View}
+use Rattle.live.specs.Logs.{EndingOf}
+use Rattle.live.specs.Rules.{row, joined}
+use Rattle.live.specs.OneRun.{rows_of}
+use Rattle.live.proofs.EndLemmas.{joined-rows, rows-moved}
 use Rattle.live.proofs.shared_book.bring_together.Goals as goal
 
 pub loop-pass-preserved : goal.loop-pass-preserved
 loop-pass-preserved g c =
-    let items = c.in-Some.ensures.items in
     let inv = c.loop-pass.invariant in
-    let share = c.into_share.ensures in
-    let merged = c.merge.ensures in
+    let view = c.loop-pass.ending.view in
+    let first = c.args.ending.view in
+    let pass = c.in-Some.pass in
+    let rows = row pass.caller.worker pass.kept ∷ [] in
+    let left = c.pop.new.self.items in
+    let now : c.take.new.self.view ≡ record view { rows = rows ++ view.rows } =
+    ap (λ (e : EndingOf). e.view) c.take.ensures ∙ (ap (λ (v : View). joined view v) (ap (λ m. m.0) c.into_front.ensures.front) ∙ joined-rows view rows) in
+    let rows-now = ap (λ (v : View). v.rows) now in
     record {
-      parts = omega (arith, ap length items, length-append c.pop.new.self.items (c.in-Some.pass ∷ []), merged.parts, share.parts, inv.parts);
-      most = merged.apart;
-      amounts = omega (arith, ap (sum_by (λ (p : PassOf). count_of p.kept)) items, sum_by_push (λ (p : PassOf). count_of p.kept) c.pop.new.self.items c.in-Some.pass, merged.amount, share.amount, inv.amounts);
-      total = search rules;
+      table = ap (λ (e : EndingOf). e.table) c.take.ensures ∙ inv.table;
+      view = now ∙ (ap (λ (v : View). record v { rows = rows ++ view.rows }) inv.view ∙ ap (λ (r : List Row). record first { rows = r }) (sym rows-now));
+      rows = ap (λ (r : List Row). rows_of left ++ r) rows-now ∙ (rows-moved c.loop-pass.passes.items left pass view.rows c.in-Some.ensures.items ∙ inv.rows);
     }

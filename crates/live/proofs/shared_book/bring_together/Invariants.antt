@@ -1,14 +1,12 @@
-use Rattle.std.proofs.Common.{◌≡◌, ◌+◌, ◌≤◌, length}
-use Rattle.std.specs.List.{sum_by}
-use Rattle.book.specs.Passes.{PassOf, count_of}
+use Rattle.std.proofs.Common.{◌≡◌, ◌++◌}
+use Rattle.live.specs.OneRun.{rows_of}
 use Rattle.live.proofs.shared_book.bring_together.Given as goal
 
 abbrev pub invariant-loop-pass : goal.invariant-loop-pass
 invariant-loop-pass g l = record {
-  parts : l.rest.parts + length l.passes.items ≡ l.initial.rest.parts + length l.initial.passes.items;
-  most : l.rest.parts ≤ g.L.Ledger.parts;
-  amounts : l.rest.amount + sum_by (λ (p : PassOf). count_of p.kept) l.passes.items ≡ sum_by (λ (p : PassOf). count_of p.kept) l.initial.passes.items;
-  total : l.entries.total ≡ l.initial.entries.total;
+  table : l.ending.table ≡ l.initial.ending.table;
+  view : l.ending.view ≡ record l.initial.ending.view { rows = l.ending.view.rows };
+  rows : rows_of l.passes.items ++ l.ending.view.rows ≡ rows_of l.initial.passes.items;
 }
 
 abbrev pub decreases-loop-pass : goal.decreases-loop-pass

@@ -1,6 +1,6 @@
 use Rattle.std.proofs.Common.{◌∙◌, ℕ, List, take, drop, ap}
 use Rattle.live.specs.Crews.{WorkerOf}
-use Rattle.subcommands.proofs.RoundLemmas.{ran}
+use Rattle.subcommands.proofs.RoundLemmas.{ran, set_up-more}
 use Rattle.subcommands.proofs.threads.work_all.Goals as goal
 
 pub returns-in-Ok-all_passes-clause-whole : goal.returns-in-Ok-all_passes-clause-whole
@@ -13,3 +13,6 @@ returns-in-Ok-all_passes-clause-whole g c =
     ran g.L.Opened.opening.watermarks c.args.setup.items _ hired ready c.in-Ok-split.workers.items c.in-Ok-split.others.items c.work_together-workers.result.0.items _ _ _ c.in-Ok.ensures c.in_ok-set_up.ensures.whole front back
     c.work_together-workers.ensures.workers c.work_together-workers.ensures.count (rw c.deref.ensures.value at c.in_ok-print_rows.ensures.whole)
     c.in-Ok-new_pass.daemon c.work_together-workers.result.1 _ c.in-Ok-new_pass.ensures c.work_together-workers.ensures.daemon c.in-Ok-all_passes.ensures
+
+pub split-requires : goal.split-requires
+split-requires g c = set_up-more g.L.Opened.opening.watermarks c.args.setup.items c.in-Ok.crew.workers.items c.set_up.new.crew.workers.items _ _ c.len-rows.result c.in_ok-set_up.ensures.whole c.len-rows.ensures

@@ -1,6 +1,7 @@
-use Rattle.std.specs.Prelude.{◌≡◌, ◌<◌}
+use Rattle.std.specs.Prelude.{◌≡◌}
+use Rattle.live.specs.OneRun.{Gathers}
 use Rattle.live.proofs.pass.Pass.gather.Given as goal
 
--- the pass is as it was, and the book but for the order in which its pages are taken
+-- the pass is as it was, and the book but for marks that were merged
 abbrev pub invariant-loop-word : goal.invariant-loop-word
-invariant-loop-word g l = (l.self ≡ l.fn.self) × (l.book ≡ record l.fn.book { order = l.book.order })
+invariant-loop-word g l = (l.self ≡ l.fn.self) × Gathers l.fn.book l.book

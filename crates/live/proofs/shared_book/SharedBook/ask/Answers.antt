@@ -1,12 +1,24 @@
-use Rattle.std.proofs.Common.{◌≡◌, ◌∙◌, subst}
+use Rattle.std.proofs.Common.{rules, ◌≡◌, ◌∙◌, subst}
 use Rattle.machine.specs.State.{Opening}
+use Rattle.book.specs.Events.{event_of, reply_of}
 use Rattle.turns.specs.Tickets.{blocks_in, OwnReply}
 use Rattle.turns.proofs.TicketLemmas.{gives_own}
+use Rattle.live.proofs.SharedLemmas.{opened-so, shared-call}
 use Rattle.live.proofs.shared_book.SharedBook.ask.Goals as goal
 
 pub returns-clause-own : goal.returns-clause-own
 returns-clause-own g c =
     let past = c.ask-reply.new.book in
     let worker = c.args.pass.now.caller.worker in
+    let told = c.ask-reply.ensures in
+    let shared = c.self.invariant in
+    let opened : past.state.opening ≡ g.L.Opened.opening =
+    opened-so g.L.Opened.table g.L.Opened.opening c.self.inside.book c.self.inside.log shared c.args.pass.now told.known told.given (event_of c.args.event) (reply_of c.ask-reply.result) past told.called ∙ shared.opened in
     let Own : Opening → Type 0 = λ o. OwnReply worker (blocks_in o) c.ask-reply.result in
-    subst Own (c.ask-reply.ensures.opening ∙ c.self.invariant.4) (gives_own past worker c.history_is_right.ensures.legal c.ask-reply.result c.ask-reply.ensures.gives)
+    subst Own opened (gives_own past worker c.history_is_right.ensures.legal c.ask-reply.result told.gives)
+
+pub invariant_of-self : goal.invariant_of-self
+invariant_of-self g c =
+    let told = c.ask-reply.ensures in
+    shared-call g.L.Opened.table g.L.Opened.opening c.self.inside.book c.self.inside.log c.self.invariant c.args.pass.now told.known told.given (event_of c.args.event) (reply_of c.ask-reply.result) c.ask-reply.new.book c.ask-reply.new.log
+    (search rules) told.called told.passes told.log

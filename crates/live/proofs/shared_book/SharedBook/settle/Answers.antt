@@ -1,16 +1,49 @@
-use Rattle.std.proofs.Common.{rules, arith, ap, sym, subst, ◌≡◌, ◌∙◌, List, length, reverse}
-use Rattle.std.proofs.lemmas.List.{length-reverse, reverse-reverse}
+use Rattle.std.proofs.Common.{◌≡◌, ◌+◌, ◌≤◌, List, length, ap, sym, subst, arith}
 use Rattle.machine.specs.declared.entry.Entry.{Entry}
 use Rattle.machine.specs.History.{Honest, Right, at_first}
+use Rattle.live.specs.Logs.{EndingOf}
+use Rattle.live.proofs.EndLemmas.{one-run, run-each, run-matches, run-counted}
 use Rattle.live.proofs.shared_book.SharedBook.settle.Goals as goal
 
 pub returns-clause-right : goal.returns-clause-right
 returns-clause-right g c = λ files. subst (λ (h : List Entry). Honest (at_first files) h → Right (at_first files) h) (sym c.close.ensures) (c.history_is_right.ensures.right files)
 
 pub returns-clause-entries : goal.returns-clause-entries
-returns-clause-entries g c = omega (arith, ap length c.close.ensures, length-reverse c.close.result.entries, c.bring_together.ensures.counted, c.self.invariant.0)
+returns-clause-entries g c =
+    let view = c.end-ending.result.view in
+    let is = c.end-ending.ensures in
+    let all = c.bring_together.ensures in
+    let rolled : view.rolled ≡ 0 + c.given-count.result = ap (λ (e : EndingOf). e.view.rolled) is in
+    let most : view.given ≤ length c.args.passes.items = omega (arith, all.rolled, rolled, c.given-count.ensures, c.requires) in
+    run-counted g.L.Opened.table g.L.Opened.opening c.self.inside.book c.self.inside.log c.self.invariant c.close.result.entries (sym c.close.ensures) c.args.passes.items view
+    (ap (λ (e : EndingOf). e.view.log) is) (ap (λ (e : EndingOf). e.view.given) is) all most
 
-pub returns-clause-trace : goal.returns-clause-trace
-returns-clause-trace g c =
-    let same : c.self.inside.book.history ≡ c.args.self.history = search rules in
-    sym (reverse-reverse c.close.result.entries) ∙ (ap reverse c.close.ensures ∙ ap reverse same)
+pub returns-clause-one_run : goal.returns-clause-one_run
+returns-clause-one_run g c =
+    let view = c.end-ending.result.view in
+    let is = c.end-ending.ensures in
+    let all = c.bring_together.ensures in
+    let rolled : view.rolled ≡ 0 + c.given-count.result = ap (λ (e : EndingOf). e.view.rolled) is in
+    let most : view.given ≤ length c.args.passes.items = omega (arith, all.rolled, rolled, c.given-count.ensures, c.requires) in
+    one-run g.L.Opened.table g.L.Opened.opening c.self.inside.book c.self.inside.log c.self.invariant c.close.result.entries (sym c.close.ensures) c.args.passes.items view
+    (ap (λ (e : EndingOf). e.view.log) is) (ap (λ (e : EndingOf). e.view.given) is) all most
+
+pub returns-clause-matches : goal.returns-clause-matches
+returns-clause-matches g c =
+    let view = c.end-ending.result.view in
+    let is = c.end-ending.ensures in
+    let all = c.bring_together.ensures in
+    let rolled : view.rolled ≡ 0 + c.given-count.result = ap (λ (e : EndingOf). e.view.rolled) is in
+    let most : view.given ≤ length c.args.passes.items = omega (arith, all.rolled, rolled, c.given-count.ensures, c.requires) in
+    run-matches g.L.Opened.table g.L.Opened.opening c.self.inside.book c.self.inside.log c.self.invariant c.close.result.entries (sym c.close.ensures) c.args.passes.items view
+    (ap (λ (e : EndingOf). e.view.log) is) (ap (λ (e : EndingOf). e.view.given) is) all most
+
+pub returns-clause-each : goal.returns-clause-each
+returns-clause-each g c =
+    let view = c.end-ending.result.view in
+    let is = c.end-ending.ensures in
+    let all = c.bring_together.ensures in
+    let rolled : view.rolled ≡ 0 + c.given-count.result = ap (λ (e : EndingOf). e.view.rolled) is in
+    let most : view.given ≤ length c.args.passes.items = omega (arith, all.rolled, rolled, c.given-count.ensures, c.requires) in
+    run-each g.L.Opened.table g.L.Opened.opening c.self.inside.book c.self.inside.log c.self.invariant c.close.result.entries (sym c.close.ensures) c.args.passes.items view
+    (ap (λ (e : EndingOf). e.view.log) is) (ap (λ (e : EndingOf). e.view.given) is) all most

@@ -1,0 +1,194 @@
+//! What no clause says: each call once, threads that really run at the same time, and a caller who is alone.
+
+ghost use Rattle.std.specs.Prelude.{◌≡◌, ℕ, ◌+◌, ◌/◌, ◌%◌, ◌^◌, ◌<◌, ◌≤◌, ◌==◌, if◌then◌else◌, All};
+ghost use Rattle.std.specs.Int.{bit_at};
+ghost use Rattle.marks.specs.Logs.{IsHarvested};
+
+use marks::{Found, Marks, Seat};
+use std::alloc::AllocError;
+use std::test::Fail;
+use std::thread;
+use std::thread::Threads;
+
+const FRAMES: usize = 256;
+
+/// For each frame, how often a thread was the one to mark it, less how often it took the mark; modulo 2^32.
+type Counts = [u32; FRAMES];
+
+#[derive(Clone, Copy, Drop)]
+enum Work {
+    Set,
+    Harvest,
+}
+
+#[derive(Drop)]
+struct Job {
+    work: Work,
+    seat: Seat,
+}
+
+fn set_each(marks: &Marks, seat: &mut Seat, counts: &mut Counts)
+    requires frames { marks.now.frames ≡ 256 }
+    requires of_these { seat.old.table ≡ marks.now.table }
+    ensures { seat.new.table ≡ seat.old.table }
+{
+    for frame in 0..FRAMES {
+        if marks.set(seat, frame as u32) == Found::Clear {
+            counts[frame] = counts[frame].wrapping_add(1);
+        }
+    }
+}
+
+fn count_taken(counts: &mut Counts, word: u32, bits: u64)
+    requires { word < 4 }
+{
+    for place in 0..64u32 {
+        let frame = (64 * word + place) as usize;
+        counts[frame] = counts[frame].wrapping_sub(((bits >> place) & 1) as u32);
+    }
+}
+
+fn harvest_each(marks: &Marks, seat: &mut Seat, counts: &mut Counts)
+    requires frames { marks.now.frames ≡ 256 }
+    requires of_these { seat.old.table ≡ marks.now.table }
+    ensures { seat.new.table ≡ seat.old.table }
+{
+    for word in 0..4u32 {
+        if marks.load(word) != 0 {
+            let bits = marks.harvest(seat, word);
+            count_taken(counts, word, bits);
+        }
+    }
+}
+
+fn counts_of(marks: &Marks, job: Job) -> Counts
+    requires frames { marks.now.frames ≡ 256 }
+    requires of_these { job.seat.table ≡ marks.now.table }
+{
+    let Job { work, mut seat } = job;
+    let mut counts = [0; FRAMES];
+    for _round in 0..1000u32 {
+        match work {
+            Work::Set => set_each(marks, &mut seat, &mut counts),
+            Work::Harvest => harvest_each(marks, &mut seat, &mut counts),
+        }
+    }
+    counts
+}
+
+fn add_job(
+    marks: &Marks,
+    first: &mut Seat,
+    work: Work,
+    jobs: &mut Vec<Job>,
+) -> Result<(), AllocError>
+    requires parts { 2 ≤ first.old.log.parts }
+    requires of_these { first.old.table ≡ marks.now.table }
+    requires jobs { All (λ j. j.seat.table ≡ marks.now.table) jobs.old.items }
+    ensures parts { first.new.log.parts + 1 ≡ first.old.log.parts }
+    ensures of_these { first.new.table ≡ first.old.table }
+    ensures jobs { All (λ j. j.seat.table ≡ marks.now.table) jobs.new.items }
+{
+    let seat = marks.seat(first);
+    jobs.push(Job { work, seat })?;
+    Ok(())
+}
+
+/// Does each job on a thread of its own.
+fn do_all<R: Threads + Sync>(
+    rt: &R,
+    marks: &Marks,
+    jobs: Vec<Job>,
+) -> Result<Vec<Counts>, AllocError>
+    requires frames { marks.now.frames ≡ 256 }
+    requires of_these { All (λ j. j.seat.table ≡ marks.now.table) jobs.items }
+{
+    thread::map_vec(
+        rt,
+        jobs,
+        &|job: Job|
+            requires { (marks.now.frames ≡ 256) × (job.seat.table ≡ marks.now.table) }
+        { counts_of(marks, job) },
+    )
+}
+
+#[test]
+fn no_mark_is_lost_or_taken_twice(rt: HostRuntime) -> Result<(), Fail> {
+    let (marks, mut first) = Marks::open(rt.alloc(), FRAMES as u32)?;
+    let mut jobs = Vec::new(rt.alloc());
+    add_job(&marks, &mut first, Work::Set, &mut jobs)?;
+    add_job(&marks, &mut first, Work::Harvest, &mut jobs)?;
+    add_job(&marks, &mut first, Work::Set, &mut jobs)?;
+    add_job(&marks, &mut first, Work::Set, &mut jobs)?;
+    add_job(&marks, &mut first, Work::Harvest, &mut jobs)?;
+    add_job(&marks, &mut first, Work::Set, &mut jobs)?;
+    let counts = do_all(&rt, &marks, jobs)?;
+    let mut words = [0; 4];
+    for word in 0..4u32 {
+        words[word as usize] = marks.load(word);
+    }
+    for frame in 0..FRAMES {
+        let left = ((words[frame / 64] >> (frame % 64) as u32) & 1) as u32;
+        let set = counts
+            .iter()
+            .fold(0u32, |sum, by_thread| sum.wrapping_add(by_thread[frame]));
+        assert_eq!(rt; set, left);
+    }
+    Ok(())
+}
+
+#[test]
+fn two_seats_see_one_mark(rt: HostRuntime) -> Result<(), Fail> {
+    let (marks, mut first) = Marks::open(rt.alloc(), 130)?;
+    let mut second = marks.seat(&mut first);
+    assert_eq!(rt; first.parts(), 4294967295);
+    assert_eq!(rt; second.parts(), 1);
+    assert_eq!(rt; marks.set(&mut first, 129), Found::Clear);
+    assert_eq!(rt; marks.set(&mut second, 129), Found::Marked);
+    assert_eq!(rt; marks.set(&mut second, 3), Found::Clear);
+    assert_eq!(rt; marks.load(0), 8);
+    assert_eq!(rt; marks.harvest(&mut first, 0), 8);
+    assert_eq!(rt; marks.load(0), 0);
+    let mut seats = Vec::new(rt.alloc());
+    seats.push(first)?;
+    seats.push(second)?;
+    let words = marks.close(seats);
+    assert_eq!(rt; words.get(0), 0);
+    assert_eq!(rt; words.get(2), 2);
+    Ok(())
+}
+
+/// The marks that a harvest takes right after a set. Where nobody else sets or harvests, and nothing was
+/// left, it is that of this frame alone.
+fn mark_alone(marks: &Marks, seat: &mut Seat, frame: u32) -> u64
+    requires in_range { frame < marks.now.frames }
+    requires of_these { seat.old.table ≡ marks.now.table }
+    requires parts { seat.old.log.parts ≡ 2 ^ 32 }
+    requires harvested { IsHarvested seat.old.log }
+    ensures one { (f : ℕ) → f / 64 ≡ frame / 64 → bit_at result (f % 64) ≡ (if f == frame then 1 else 0) }
+    ensures table { seat.new.table ≡ seat.old.table }
+    ensures parts { seat.new.log.parts ≡ 2 ^ 32 }
+    ensures harvested { IsHarvested seat.new.log }
+{
+    marks.set(seat, frame);
+    marks.harvest(seat, frame / 64)
+}
+
+#[test]
+fn frames_at_the_ends_of_words(rt: HostRuntime) -> Result<(), Fail> {
+    let (marks, mut seat) = Marks::open(rt.alloc(), 65537)?;
+    assert_eq!(rt; marks.frames(), 65537);
+    assert_eq!(rt; mark_alone(&marks, &mut seat, 0), 1);
+    assert_eq!(rt; mark_alone(&marks, &mut seat, 63), 1 << 63);
+    assert_eq!(rt; mark_alone(&marks, &mut seat, 64), 1);
+    assert_eq!(rt; mark_alone(&marks, &mut seat, 65536), 1);
+    assert_eq!(rt; marks.set(&mut seat, 63), Found::Clear);
+    assert_eq!(rt; marks.set(&mut seat, 64), Found::Clear);
+    assert_eq!(rt; marks.set(&mut seat, 65536), Found::Clear);
+    assert_eq!(rt; marks.set(&mut seat, 63), Found::Marked);
+    assert_eq!(rt; marks.load(0), 1 << 63);
+    assert_eq!(rt; marks.load(1), 1);
+    assert_eq!(rt; marks.load(2), 0);
+    assert_eq!(rt; marks.load(1024), 1);
+    Ok(())
+}

@@ -1,0 +1,269 @@
+//! One history of what all workers were told, and seats that know of it. It exists in the proofs alone: at run time it is
+//! one word, which never changes.
+
+ghost use Rattle.std.specs.Prelude.{◌≡◌, ◌++◌, ◌+◌, ◌<◌, [], IfOk, drop, length};
+ghost use Rattle.live.specs.Told.{told_to, telling};
+ghost use Rattle.live.specs.Rules.{of_worker, of_roll, of_book, joined, kept_in, IsAll};
+
+use atomic_table::{Join, Play, Seat, Split, Table, TableRule};
+use book::{Kept, Pass};
+use std::alloc::{AllocError, Global};
+use std::collections::LinkedList;
+use std::marker::Model;
+
+/// One thing that was told, and to whom. No value of this type, nor of the two below, is made.
+pub struct Told {
+    pub worker: u32,
+    pub what: Kept,
+}
+
+/// What a worker was told, the oldest first.
+pub struct Row {
+    pub worker: u32,
+    pub kept: LinkedList<Kept>,
+}
+
+/// What a seat knows.
+pub struct View {
+    /// 1 where it is the book's, which knows the whole history.
+    pub books: u32,
+    /// 1 where it is the roll's.
+    pub rolls: u32,
+    /// How many passes were given out: the book's seat knows it.
+    pub given: u32,
+    /// The same: the roll's seat knows it.
+    pub rolled: u32,
+    /// The history, the newest first.
+    pub log: LinkedList<Told>,
+    /// What each of some workers was told.
+    pub rows: LinkedList<Row>,
+}
+
+/// What holds of all seats between any two steps.
+struct Fair;
+
+impl TableRule<Pass, View, ()> for Fair {
+    ghost use Rattle.live.specs.Rules.{IsKept, first_view};
+
+    ghost holds = { λ _. IsKept };
+
+    ghost first = { λ _. first_view };
+}
+
+struct Noting;
+
+impl Play<Pass, View> for Noting {
+    ghost use Rattle.live.specs.Rules.{Notes};
+
+    ghost then = { Notes };
+}
+
+struct Giving;
+
+impl Play<Pass, View> for Giving {
+    ghost use Rattle.live.specs.Rules.{GivesOut};
+
+    ghost then = { GivesOut };
+}
+
+struct Learning;
+
+impl Play<Pass, View> for Learning {
+    ghost use Rattle.live.specs.Rules.{Learns};
+
+    ghost then = { Learns };
+}
+
+struct Rows;
+
+impl Split<View> for Rows {
+    ghost use Rattle.live.specs.Rules.{without_rows, rows_alone};
+
+    ghost left = { without_rows };
+
+    ghost right = { rows_alone };
+}
+
+impl Join<View> for Rows {
+    ghost use Rattle.live.specs.Rules.{joined, blank};
+
+    ghost both = { joined };
+
+    ghost spent = { blank };
+}
+
+struct Rolls;
+
+impl Split<View> for Rolls {
+    ghost use Rattle.live.specs.Rules.{without_roll, roll_alone};
+
+    ghost left = { without_roll };
+
+    ghost right = { roll_alone };
+}
+
+/// A seat of the history.
+pub(crate) type Front = Seat<Pass, View>;
+
+/// The whole history, which lies under the lock.
+#[derive(Drop)]
+pub(crate) struct Log {
+    table: Table<Pass, View, (), Fair, Global>,
+    seat: Front,
+}
+
+impl Model for Log {
+    ghost use Rattle.std.specs.Prelude.{◌≡◌, []};
+    ghost use Rattle.live.specs.Logs.{LogOf};
+
+    ghost Value = { LogOf };
+
+    ghost use Rattle.live.specs.Rules.{of_book};
+
+    ghost view = { λ l. record { table = l.table.shared.table_id; given = l.seat.me.0.given; log = l.seat.me.0.log } };
+
+    ghost invariant = { λ l. (l.seat.table_id ≡ l.table.shared.table_id) × (l.table.shared.table_id.words ≡ 1) × (l.seat.me ≡ (of_book l.seat.me.0.given l.seat.me.0.log, [])) };
+}
+
+/// The whole history at its end, with all that the seats knew that were handed in.
+#[derive(Drop)]
+pub(crate) struct Ending {
+    table: Table<Pass, View, (), Fair, Global>,
+    seat: Front,
+}
+
+impl Model for Ending {
+    ghost use Rattle.std.specs.Prelude.{◌≡◌, []};
+    ghost use Rattle.live.specs.Logs.{EndingOf};
+
+    ghost Value = { EndingOf };
+
+    ghost view = { λ e. record { table = e.table.shared.table_id; view = e.seat.me.0 } };
+
+    ghost invariant = { λ e. (e.seat.table_id ≡ e.table.shared.table_id) × (e.table.shared.table_id.words ≡ 1) × (e.seat.me.1 ≡ []) × (e.seat.me.0.books ≡ 1) };
+}
+
+/// A history in which nobody was told anything, which has no name yet.
+#[derive(Drop)]
+pub struct Unnamed {
+    log: Log,
+    roll: Front,
+}
+
+impl Model for Unnamed {
+    ghost use Rattle.std.specs.Prelude.{◌≡◌, []};
+    ghost use Rattle.live.specs.Rules.{of_roll};
+    ghost use Rattle.atomic_table.specs.Seated.{TableId};
+
+    ghost Value = { TableId };
+
+    ghost view = { λ u. u.log.table };
+
+    ghost invariant = { λ u. (u.log.given ≡ 0) × (u.log.log ≡ []) × (u.roll.table_id ≡ u.log.table) × (u.roll.me ≡ (of_roll 0, [])) };
+}
+
+impl Unnamed {
+    pub fn new(alloc: Global) -> Result<Unnamed, AllocError> {
+        let (table, mut seat) = Table::of_words(alloc, &[0u64], &())?;
+        let roll = table.shared.split_seat::<Rolls>(&mut seat);
+        Ok(Unnamed {
+            log: Log { table, seat },
+            roll,
+        })
+    }
+
+    pub(crate) fn named(self) -> (Log, Front)
+        ensures log { (result.0.table ≡ self) × (result.0.given ≡ 0) × (result.0.log ≡ []) }
+        ensures roll { (result.1.table_id ≡ self) × (result.1.me ≡ (of_roll 0, [])) }
+    {
+        let Unnamed { log, roll } = self;
+        (log, roll)
+    }
+}
+
+impl Log {
+    /// A pass more is given out, to the next worker, who was told nothing yet.
+    pub(crate) fn give_out(&mut self, roll: &mut Front, count: u32) -> Front
+        requires of_these { roll.old.table_id ≡ self.old.table }
+        requires roll { roll.old.me ≡ (of_roll count, []) }
+        ensures log { self.new ≡ record self.old { given = self.old.given + 1 } }
+        ensures same { count ≡ self.old.given }
+        ensures front { (result.table_id ≡ self.old.table) × (result.me ≡ (of_worker count [], [])) }
+        ensures roll { (roll.new.table_id ≡ self.old.table) × (roll.new.me ≡ (of_roll (count + 1), [])) }
+    {
+        let table = &self.table;
+        let mine = table.shared.split_seat::<Rolls>(roll);
+        table.shared.join_seat::<Rows>(&mut self.seat, mine);
+        table.shared.load::<Giving>(&mut self.seat, 0);
+        let front = table.shared.split_seat::<Rows>(&mut self.seat);
+        *roll = table.shared.split_seat::<Rolls>(&mut self.seat);
+        front
+    }
+
+    /// The roll has counted the passes that were given out. Nothing changes.
+    pub(crate) fn agree(&mut self, roll: &mut Front, count: u32)
+        requires of_these { roll.old.table_id ≡ self.old.table }
+        requires roll { roll.old.me ≡ (of_roll count, []) }
+        ensures log { self.new ≡ self.old }
+        ensures same { count ≡ self.old.given }
+        ensures roll { (roll.new.table_id ≡ self.old.table) × (roll.new.me ≡ (of_roll count, [])) }
+    {
+        let table = &self.table;
+        let mine = table.shared.split_seat::<Rolls>(roll);
+        table.shared.join_seat::<Rows>(&mut self.seat, mine);
+        table.shared.load::<Learning>(&mut self.seat, 0);
+        *roll = table.shared.split_seat::<Rolls>(&mut self.seat);
+    }
+
+    /// A worker was told more: this is its pass now.
+    pub(crate) fn note(&mut self, front: &mut Front, pass: &Pass)
+        requires of_these { front.old.table_id ≡ self.old.table }
+        requires of_worker { front.old.me ≡ (of_worker pass.now.caller.worker (kept_in front.old.me.0.rows), []) }
+        requires more { pass.now.kept ≡ kept_in front.old.me.0.rows ++ drop (length (kept_in front.old.me.0.rows)) pass.now.kept }
+        ensures log { self.new ≡ record self.old { log = telling pass.now.caller.worker (drop (length (kept_in front.old.me.0.rows)) pass.now.kept) self.old.log } }
+        ensures known { kept_in front.old.me.0.rows ≡ told_to pass.now.caller.worker self.old.log }
+        ensures given { pass.now.caller.worker < self.old.given }
+        ensures front { (front.new.table_id ≡ self.old.table) × (front.new.me ≡ (of_worker pass.now.caller.worker pass.now.kept, [])) }
+    {
+        let table = &self.table;
+        let mine = table.shared.split_seat::<Rows>(front);
+        table.shared.join_seat::<Rows>(&mut self.seat, mine);
+        table
+            .shared
+            .compare_exchange_with::<Noting>(&mut self.seat, 0, 0, 0, pass);
+        *front = table.shared.split_seat::<Rows>(&mut self.seat);
+    }
+
+    /// The end begins: the roll is handed in.
+    pub(crate) fn end(self, roll: Front, count: u32) -> Ending
+        requires of_these { roll.table_id ≡ self.table }
+        requires roll { roll.me ≡ (of_roll count, []) }
+        ensures { result ≡ record { table = self.table; view = joined (of_book self.given self.log) (of_roll count) } }
+    {
+        let Log { table, mut seat } = self;
+        table.shared.join_seat::<Rows>(&mut seat, roll);
+        Ending { table, seat }
+    }
+}
+
+impl Ending {
+    /// A worker's seat is handed in.
+    pub(crate) fn take(&mut self, front: Front)
+        requires of_these { front.table_id ≡ self.old.table }
+        requires plain { front.me.1 ≡ [] }
+        requires one { front.me.0.books ≡ 0 }
+        ensures { self.new ≡ record self.old { view = joined self.old.view front.me.0 } }
+    {
+        let table = &self.table;
+        table.shared.join_seat::<Rows>(&mut self.seat, front);
+    }
+
+    /// What the history has of those that were handed in.
+    pub(crate) fn close(self)
+        requires roll { self.view.rolls ≡ 1 }
+        ensures { IsAll self.view }
+    {
+        let Ending { table, mut seat } = self;
+        table.shared.load::<Learning>(&mut seat, 0);
+    }
+}
