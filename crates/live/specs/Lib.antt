@@ -7,4 +7,5 @@ pub mod Matching
 pub mod Told
 pub mod Rules
 pub mod Logs
+pub mod Hands
 pub mod OneRun

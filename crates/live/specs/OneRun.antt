@@ -18,6 +18,7 @@ use Rattle.live.specs.declared.history.Row.{Row}
 use Rattle.live.specs.Told.{told, told_to}
 use Rattle.live.specs.Rules.{row}
 use Rattle.live.specs.Logs.{LogOf}
+use Rattle.live.specs.Hands.{HandsAre}
 use Rattle.live.specs.Matching.{AreApart}
 use Rattle.live.specs.Works.{finds_of}
 
@@ -98,6 +99,7 @@ pub record IsShared (table : TableId) (opening : Opening) (past : Past) (log : L
   pub acts : List Act
   pub leads : Leads opening acts past
   pub told_is : told_in acts ≡ log.log
+  pub hands : HandsAre past log.log
 
 -- marks are merged, any number of times, the newest first
 abbrev pub MergeOn : Past → List (ℕ × ℕ) → Past → Type 0

@@ -9,6 +9,7 @@ loop-turn-preserved g c = record {
   finite = tt;
   under = under_more _ _ _ _ _ _ _ _ _ _ _ c.loop-turn.invariant.under c.in-Some-step.ensures.goes;
   own = c.in-Some-step.ensures.own;
+  hand = c.in-Some-step.ensures.hand;
   caller = search rules;
   held = c.in-Some-step.ensures.held;
   space = c.in-Some-step.ensures.space;
