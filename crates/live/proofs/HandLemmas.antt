@@ -45,7 +45,7 @@ use Rattle.live.specs.declared.history.Told.{Told}
 use Rattle.live.specs.Told.{told, told_to, telling}
 use Rattle.live.specs.Matching.{asks_end}
 use Rattle.live.specs.Shares.{is_strange}
-use Rattle.live.specs.OneRun.{found_in}
+use Rattle.live.specs.Shared.{found_in}
 use Rattle.live.specs.Hands.{begun_by, IsInHand, HasEvent, HandsAre}
 use Rattle.live.proofs.ToldLemmas.{told-own, told-other}
 

@@ -25,7 +25,8 @@ use Rattle.live.specs.declared.history.Told.{Told}
 use Rattle.live.specs.Told.{told, told_to, telling}
 use Rattle.live.specs.Logs.{LogOf}
 use Rattle.live.specs.Hands.{HandsAre}
-use Rattle.live.specs.OneRun.{Act, Tells, Merges, GivesOut, Leads, told_in, IsShared, MergeOn, Gathers, found_in}
+use Rattle.live.specs.OneRun.{Act, Tells, Merges, GivesOut, Leads, told_in}
+use Rattle.live.specs.Shared.{IsShared, MergeOn, Gathers, found_in}
 use Rattle.live.proofs.ActLemmas.{current-trace}
 use Rattle.live.proofs.HandLemmas.{hands-none, hands-same, hands-finds, hands-call}
 

@@ -9,3 +9,4 @@ pub mod Rules
 pub mod Logs
 pub mod Hands
 pub mod OneRun
+pub mod Shared

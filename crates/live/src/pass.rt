@@ -10,7 +10,7 @@ ghost use Rattle.turns.specs.Turns.{paths_of};
 ghost use Rattle.live.specs.Runs.{Looked};
 ghost use Rattle.live.specs.Told.{told, told_to, telling};
 ghost use Rattle.live.specs.Rules.{of_worker};
-ghost use Rattle.live.specs.OneRun.{Gathers, IsShared, found_in};
+ghost use Rattle.live.specs.Shared.{Gathers, IsShared, found_in};
 ghost use Rattle.live.specs.Hands.{HasEvent};
 
 use crate::hand::Hand;

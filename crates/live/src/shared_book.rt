@@ -13,7 +13,8 @@ ghost use Rattle.live.specs.Matching.{Matches};
 ghost use Rattle.live.specs.Runs.{Looked};
 ghost use Rattle.live.specs.Reports.{IsLegal};
 ghost use Rattle.live.specs.Rules.{IsAll};
-ghost use Rattle.live.specs.OneRun.{IsOneRun, WereGiven, rows_of};
+ghost use Rattle.live.specs.OneRun.{IsOneRun, WereGiven};
+ghost use Rattle.live.specs.Shared.{rows_of};
 ghost use Rattle.live.specs.Hands.{HasEvent};
 
 use crate::history::{Ending, Log};
@@ -44,7 +45,7 @@ pub struct SharedBook<L: Opened> {
 
 impl<L: Opened> Model for SharedBook<L> {
     ghost use Rattle.machine.specs.Call.{Past};
-    ghost use Rattle.live.specs.OneRun.{IsShared};
+    ghost use Rattle.live.specs.Shared.{IsShared};
 
     ghost Value = { Past };
 
