@@ -12,9 +12,9 @@ use Rattle.machine.specs.declared.reply.Reply.TheVariants as reply
 use Rattle.machine.specs.declared.refusal.Refusal.{Refusal}
 use Rattle.machine.specs.declared.refusal.Refusal.TheVariants.{Stranger, TraceFull}
 use Rattle.machine.specs.declared.entry.Entry.{Entry}
-use Rattle.machine.specs.Slots.{at, there_and}
+use Rattle.machine.specs.Slots.{there_and}
 use Rattle.machine.specs.Tree.{Node, find_group}
-use Rattle.machine.specs.Pages.{Residence, Page, Pages, page_at, ticket_at, is_ticket_taken, is_flying_at, is_in_flight}
+use Rattle.machine.specs.Pages.{Page, Pages, page_at, ticket_at, is_ticket_taken, is_flying_at, is_in_flight}
 use Rattle.machine.specs.Refusals.{refusal}
 use Rattle.machine.specs.State.{Opening, State}
 use Rattle.machine.specs.Step.{Step}
@@ -28,11 +28,11 @@ use Rattle.legal.proofs.Effects.{ends, Effect, step_effect}
 use Rattle.legal.proofs.SharedLemmas.{legal-live, ticket_taken}
 use Rattle.legal.proofs.ShownLemmas.{shows_pages-legal}
 use Rattle.legal.proofs.SoundLemmas.{legal-files}
-use Rattle.pages.specs.PagesOf.{Label, labelled, moving}
+use Rattle.pages.specs.PagesOf.{labelled, moving}
 use Rattle.pages.proofs.TableLemmas.{any-some}
 use Rattle.book.specs.declared.kept.Asked.{Asked}
 use Rattle.book.specs.declared.kept.Kept.{Kept}
-use Rattle.book.specs.declared.kept.Kept.TheVariants.{Call, Find}
+use Rattle.book.specs.declared.kept.Kept.TheVariants.{Call}
 use Rattle.book.specs.declared.event.Event.{Event as Asks}
 use Rattle.book.specs.declared.event.Event.TheVariants as event
 use Rattle.book.specs.declared.event.Reply.{Reply as Answer}

@@ -1,9 +1,7 @@
 -- Which ticket a worker has in hand, from turn to turn.
-use Rattle.std.proofs.Common.{◌≡◌, ℕ, zero, suc, Bool, true, false, List, [], ◌∷◌, ◌++◌, refl, sym, ap, ◌∙◌, append-nil, subst, Ok, Err}
+use Rattle.std.proofs.Common.{◌≡◌, ℕ, zero, suc, Bool, true, false, List, [], ◌∷◌, ◌++◌, sym, ap, ◌∙◌, append-nil, subst, Ok, Err}
 use Rattle.std.specs.Prelude.{Result, nat_le, if◌then◌else◌}
-use Rattle.machine.specs.declared.record.Direction.{Direction}
 use Rattle.machine.specs.declared.record.Direction.TheVariants.{In, Out}
-use Rattle.machine.specs.declared.reply.Reply.{Reply as Plain_reply}
 use Rattle.machine.specs.declared.config.Watermarks.{Watermarks}
 use Rattle.machine.specs.declared.command.Actor.{Actor}
 use Rattle.machine.specs.declared.command.Reply.{Reply as Told_by}
@@ -14,12 +12,11 @@ use Rattle.pages.specs.Tickets.{TicketOf}
 use Rattle.book.specs.declared.kept.Asked.{Asked}
 use Rattle.book.specs.declared.kept.Kept.{Kept}
 use Rattle.book.specs.declared.kept.Kept.TheVariants.{Call}
-use Rattle.book.specs.declared.event.Event.{Event}
 use Rattle.book.specs.declared.event.Event.TheVariants as event
 use Rattle.book.specs.declared.event.Reply.{Reply}
 use Rattle.book.specs.declared.event.Reply.TheVariants as said
 use Rattle.book.specs.Events.{event_of, reply_of}
-use Rattle.book.specs.Passes.{asked_of, call_of}
+use Rattle.book.specs.Passes.{asked_of}
 use Rattle.turns.specs.declared.turn.Access.{Access}
 use Rattle.turns.specs.declared.turn.Resume.{Resume}
 use Rattle.turns.specs.declared.turn.Resume.TheVariants as resume
@@ -31,11 +28,11 @@ use Rattle.turns.specs.declared.turn.Want.{Want}
 use Rattle.turns.specs.declared.turn.Want.TheVariants as want
 use Rattle.turns.specs.declared.turn.Transition.{Transition}
 use Rattle.turns.specs.declared.turn.Transition.TheVariants.{Goes, Kills, Waits, Ends}
-use Rattle.turns.specs.Turns.{Told, Tried, MadeRoom, MaxSet, Lowered, Reclaimed, Balanced, Made as Was_made, TaskDid, WasShown, Closed as Was_closed, done, wants, wants_pages, wants_watch, wants_balance, resumes_at, arrived, after_read, after_write, ends_with, ends_refused}
+use Rattle.turns.specs.Turns.{Told, Tried, MadeRoom, MaxSet, Lowered, Reclaimed, Balanced, Made as Was_made, TaskDid, WasShown, Closed as Was_closed, done, wants, wants_pages, wants_watch, wants_balance, resumes_at, arrived, after_read, after_write, ends_with}
 use Rattle.turns.specs.Tickets.{holds}
-use Rattle.live.specs.Works.{Calls, Reads, Writes, WantMade, GoesOn}
-use Rattle.live.specs.Runs.{Made, Linked}
-use Rattle.live.specs.Hands.{begun_by, IsInHand, HasEvent, HasStage, HasWant, HasTransition}
+use Rattle.live.specs.Works.{WantMade, GoesOn}
+use Rattle.live.specs.Runs.{Linked}
+use Rattle.live.specs.Hands.{begun_by, IsInHand, HasStage, HasWant, HasTransition}
 
 -- a state that holds no ticket
 pub has-none : (kept : List Kept) (at : Stage) → holds at ≡ false → HasStage kept at
@@ -198,11 +195,11 @@ module _ (old new added : List Kept) (transition : Transition) (keeps : new ≡ 
   same-kept none = keeps ∙ (ap (λ (l : List Kept). old ++ l) none ∙ append-nil old)
 
   read-has : (access : Access) (ticket : TicketOf) (answered : Result (Unit {0}) Fault) → IsInHand In ticket.number new → HasStage new (after_read access answered ticket)
-  read-has access ticket (Ok done) h = h
+  read-has access ticket (Ok _) h = h
   read-has access ticket (Err fault) h = h
 
   write-has : (on : Resume) (ticket : TicketOf) (answered : Result (Unit {0}) Fault) → IsInHand Out ticket.number new → HasStage new (after_write on answered ticket)
-  write-has on ticket (Ok done) h = h
+  write-has on ticket (Ok _) h = h
   write-has on ticket (Err fault) h = h
 
   want-has : (w : Want) → HasWant old w → WantMade w added transition → HasTransition new transition

@@ -12,6 +12,7 @@ ghost use Rattle.live.specs.Told.{told, told_to, telling};
 ghost use Rattle.live.specs.Rules.{of_worker};
 ghost use Rattle.live.specs.Shared.{Gathers, IsShared, found_in};
 ghost use Rattle.live.specs.Hands.{HasEvent};
+ghost use Rattle.live.specs.Shares.{strange};
 
 use crate::hand::Hand;
 use crate::history::{Front, Log};
@@ -69,9 +70,11 @@ impl<L: Opened> Pass<L> {
         }
     }
 
-    /// What was asked with it, the oldest first.
+    /// What was asked with it, the oldest first. A ticket in hand is its worker's own, so the end of no transfer was
+    /// answered `Stranger`.
     pub fn kept(&self) -> &[Kept]
-        ensures { result.now ≡ self.now.kept }
+        ensures kept { result.now ≡ self.now.kept }
+        ensures known { strange self.now.kept ≡ 0 }
     {
         self.pass.kept()
     }
@@ -88,7 +91,8 @@ impl<L: Opened> Pass<L> {
 
     /// It has this seat of the marks from now on, or none.
     pub(crate) fn sit(&mut self, hand: Option<Hand>)
-        ensures { self.new ≡ self.old }
+        ensures same { self.new ≡ self.old }
+        ensures known { strange self.new.kept ≡ 0 }
     {
         self.hand = hand;
     }
@@ -166,6 +170,7 @@ impl<L: Opened> Pass<L> {
     pub(crate) fn ask(&mut self, book: &mut Book, log: &mut Log, event: Event) -> Reply
         requires room { 0 < self.old.room }
         requires leaves { leaves_entry (event_of event) ≡ true }
+        requires of_these { log.old.table ≡ L.table }
         requires shared { IsShared L.table L.opening book.old log.old }
         requires hand { HasEvent self.old.kept event }
         ensures called { CalledWith book.old self.old (event_of event) (reply_of result) book.new }

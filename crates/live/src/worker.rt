@@ -375,7 +375,7 @@ impl<L: Opened, D: SharedDevice> Live<L, D> {
     ) -> Result<Vec<Told>, Refusal>
         ensures works { IfOk result (λ answers. Worked L.opening.watermarks actor commands.now pass.old.kept pass.new.kept answers.items) }
         ensures share { KeepsShare pass.old.kept pass.new.kept }
-        ensures known { strange pass.new.kept ≡ 0 }
+        ensures known { OnOk result (strange pass.new.kept ≡ 0) }
         ensures rest { has_share pass.old.kept ≡ false → has_share pass.new.kept ≡ false }
         ensures worker { pass.new.caller ≡ pass.old.caller }
         ensures err { IfErr result (λ cause. (cause ≡ Refusal.NoMemory) × (pass.new.kept ≡ pass.old.kept)) }
@@ -410,7 +410,7 @@ impl<L: Opened, D: SharedDevice> Live<L, D> {
     ) -> Result<Vec<Told>, Refusal>
         ensures works { IfOk result (λ answers. Worked L.opening.watermarks (Actor.Task n) commands.now pass.old.kept pass.new.kept answers.items) }
         ensures share { KeepsShare pass.old.kept pass.new.kept }
-        ensures known { strange pass.new.kept ≡ 0 }
+        ensures known { OnOk result (strange pass.new.kept ≡ 0) }
         ensures rest { has_share pass.old.kept ≡ false → has_share pass.new.kept ≡ false }
         ensures worker { pass.new.caller ≡ pass.old.caller }
         ensures err { IfErr result (λ cause. (cause ≡ Refusal.NoMemory) × (pass.new.kept ≡ pass.old.kept)) }
@@ -427,7 +427,7 @@ impl<L: Opened, D: SharedDevice> Live<L, D> {
     ) -> Result<Vec<Told>, Refusal>
         ensures works { IfOk result (λ answers. Worked L.opening.watermarks Actor.Control commands.now pass.old.kept pass.new.kept answers.items) }
         ensures share { KeepsShare pass.old.kept pass.new.kept }
-        ensures known { strange pass.new.kept ≡ 0 }
+        ensures known { OnOk result (strange pass.new.kept ≡ 0) }
         ensures rest { has_share pass.old.kept ≡ false → has_share pass.new.kept ≡ false }
         ensures worker { pass.new.caller ≡ pass.old.caller }
         ensures err { IfErr result (λ cause. (cause ≡ Refusal.NoMemory) × (pass.new.kept ≡ pass.old.kept)) }

@@ -1,4 +1,4 @@
-use Rattle.std.proofs.Common.{rules, ◌≡◌}
+use Rattle.std.proofs.Common.{rules}
 use Rattle.live.proofs.RowLemmas.{under_more, under_closed}
 use Rattle.live.proofs.ShareLemmas.{carries-both}
 use Rattle.live.proofs.live.Live.run.Goals as goal

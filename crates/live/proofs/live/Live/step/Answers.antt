@@ -1,4 +1,4 @@
-use Rattle.std.proofs.Common.{rules, ◌≡◌, ◌∷◌, ◌++◌, [], List, refl, sym, ap, ◌∙◌, append-nil, false, subst}
+use Rattle.std.proofs.Common.{rules, ◌≡◌, ◌∷◌, ◌++◌, [], List, sym, ap, ◌∙◌, append-nil, false, subst}
 use Rattle.machine.specs.declared.command.Reply.{Reply as Told_by}
 use Rattle.book.specs.declared.kept.Kept.{Kept}
 use Rattle.turns.specs.Tickets.{holds}
@@ -27,7 +27,7 @@ pub returns-in-Ok-Goes-clause-hand : goal.returns-in-Ok-Goes-clause-hand
 returns-in-Ok-Goes-clause-hand g c = linked-has _ _ _ _ _ _ _ _ (returns-in-Ok-Goes-clause-goes g c) c.requires.hand
 
 pub returns-in-Ok-Kills-clause-hand : goal.returns-in-Ok-Kills-clause-hand
-returns-in-Ok-Kills-clause-hand g c = has-resumed _ _
+returns-in-Ok-Kills-clause-hand g c = subst (HasStage c.turn.new.pass.kept) (sym c.resumes_at.ensures.at) (has-resumed c.turn.new.pass.kept c.in-Ok-Kills.resume)
 
 pub returns-in-Ok-Waits-clause-hand : goal.returns-in-Ok-Waits-clause-hand
-returns-in-Ok-Waits-clause-hand g c = has-resumed _ _
+returns-in-Ok-Waits-clause-hand g c = subst (HasStage c.turn.new.pass.kept) (sym c.resumes_at-in-Ok-Waits.ensures.at) (has-resumed c.turn.new.pass.kept c.in-Ok-Waits.resume)

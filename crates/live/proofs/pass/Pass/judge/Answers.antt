@@ -35,7 +35,7 @@ returns-clause-log g c =
     let kept = ap (λ (p : PassOf). p.kept) now ∙ looking-kept tree paths old in
     let worker = ap (λ (p : PassOf). p.caller.worker) now ∙ (ap (λ (c : Caller). c.worker) (looking-caller tree paths old) ∙ ap (λ (p : PassOf). p.caller.worker) same) in
     let front = c.self.inside.front.me.0.rows in
-    let was : kept_in front ≡ old.kept = ap (λ m. kept_in m.0.rows) c.self.invariant.1.0 in
+    let was : kept_in front ≡ old.kept = ap (λ m. kept_in m.0.rows) c.self.invariant.1 in
     let more : drop (length (kept_in front)) c.judge.new.pass.kept ≡ found_in tree paths = ap (drop (length (kept_in front))) kept ∙ noted-finds (kept_in front) old.kept (found_in tree paths) was in
     c.note.ensures.log
     ∙ (ap (λ (l : List Kept). record c.args.log.now { log = telling c.judge.new.pass.caller.worker l c.args.log.now.log }) more

@@ -1,5 +1,4 @@
-use Rattle.std.proofs.Common.{rules, ◌≡◌, ◌∙◌, List, subst}
-use Rattle.machine.specs.declared.entry.Entry.{Entry}
+use Rattle.std.proofs.Common.{rules, ◌≡◌, ◌∙◌, subst}
 use Rattle.machine.specs.State.{Opening}
 use Rattle.machine.specs.Legal.{Legal}
 use Rattle.book.specs.Events.{event_of, reply_of}
