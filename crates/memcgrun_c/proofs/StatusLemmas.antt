@@ -1,5 +1,5 @@
 -- What the status of a fault says of it, and of the script.
-use Rattle.std.proofs.Common.{◌≡◌, ◌⊎◌, inl, inr, ℕ, ◌-◌, ◌<◌, ◌≤◌, true, List, length, Option, Some, None, refl, absurd, arith}
+use Rattle.std.proofs.Common.{◌≡◌, ◌⊎◌, inl, inr, ℕ, ◌-◌, ◌<◌, ◌≤◌, true, false, List, length, Option, Some, None, refl, sym, ◌∙◌, arith}
 use Rattle.std.specs.Io.KnownBytes.{Appends}
 use Rattle.std.specs.Str.Lines.{lines}
 use Rattle.scripts.specs.declared.fault.Cause.{Cause}
@@ -9,8 +9,8 @@ use Rattle.scripts.specs.Script.{fault_at, IsFaultless, IsFirstFault}
 use Rattle.printer.specs.declared.options.Options.{Options}
 use Rattle.subcommands.specs.declared.fault.Fault.{Fault}
 use Rattle.subcommands.specs.declared.fault.Fault.TheVariants as fault
-use Rattle.subcommands.specs.Told.{Explains, IsOfScript, IsRefused, Reports, AllTold}
-use Rattle.memcgrun_c.specs.Calls.{status_by, IsUnsound, WhyNot}
+use Rattle.subcommands.specs.Told.{Explains, IsOfScript, IsRefused, AllTold}
+use Rattle.memcgrun_c.specs.Calls.{status_by, IsUnsound, WhyNot, Tells}
 
 apart : {A : Type 0} (o : Option A) (c : A) → o ≡ Some c → o ≡ None → ⊥
 apart o c p q = absurd cc
@@ -44,7 +44,7 @@ refused_is (fault.Refused told) refused = tt
 -- a line was refused only if that ends the run
 pub refused_strict : (options : Options) (file script : List ℕ) (why : Fault) → WhyNot options file script why → IsRefused why → options.strict ≡ true
 refused_strict options file script (fault.Refused told) (inl long) refused = absurd (let is = long.1 in cc)
-refused_strict options file script (fault.Refused told) (inr explains) refused = explains.1
+refused_strict options file script (fault.Refused told) (inr explains) refused = explains.1.0
 refused_strict options file script (fault.Unreadable error) reason refused = absurd refused
 refused_strict options file script fault.TooLong reason refused = absurd refused
 refused_strict options file script (fault.Script why) reason refused = absurd refused
@@ -56,7 +56,7 @@ refused_strict options file script (fault.Unwritable error) reason refused = abs
 pub bad_unsound : (options : Options) (file script : List ℕ) (why : Fault) → WhyNot options file script why → status_by why ≡ 1 → IsUnsound script
 bad_unsound options file script why (inl long) bad = inl long.0
 bad_unsound options file script (fault.Script (at.At number cause)) (inr explains) bad = inr (number, cause, explains.1)
-bad_unsound options file script (fault.Placed (at.At number cause) told) (inr explains) bad = inr (number, cause, explains.2)
+bad_unsound options file script (fault.Placed (at.At number cause) told) (inr explains) bad = inr (number, cause, explains.1.1)
 bad_unsound options file script fault.TooLong (inr explains) bad = absurd explains.1
 bad_unsound options file script (fault.Unreadable error) (inr explains) bad = absurd explains.1
 bad_unsound options file script (fault.Script at.Memory) (inr explains) bad = absurd (omega (arith, bad))
@@ -77,15 +77,44 @@ unsound_status options file script (fault.Memory wanted) reason unsound = inr re
 unsound_status options file script (fault.Unwritable error) reason unsound = inr refl
 unsound_status options file script (fault.Refused told) (inl long) unsound = absurd (let is = long.1 in cc)
 unsound_status options file script (fault.Refused told) (inr explains) (inl long) = absurd (let short = explains.0 in omega (arith, short, long))
-unsound_status options file script (fault.Refused told) (inr explains) (inr faulty) = absurd (not_both (lines script) faulty.0 faulty.1 faulty.2 explains.2)
+unsound_status options file script (fault.Refused told) (inr explains) (inr faulty) = absurd (not_both (lines script) faulty.0 faulty.1 faulty.2 explains.1.1)
 
--- of a fault that is not silent all lines were written; a silent one has the status of too little memory
-pub whole_owed : (why : Fault) (old new : Option (List ℕ)) → (status_by why ≡ 2 → ⊥) → Reports why old new → AllTold (Appends old new) why
-whole_owed why old new owed (inr told) = told
-whole_owed (fault.Unwritable error) old new owed (inl silent) = absurd (owed refl)
-whole_owed (fault.Unreadable error) old new owed (inl silent) = absurd silent.0
-whole_owed fault.TooLong old new owed (inl silent) = absurd silent.0
-whole_owed (fault.Script why) old new owed (inl silent) = absurd silent.0
-whole_owed (fault.Placed why told) old new owed (inl silent) = absurd silent.0
-whole_owed (fault.Memory wanted) old new owed (inl silent) = absurd silent.0
-whole_owed (fault.Refused told) old new owed (inl silent) = absurd silent.0
+-- without strict none is
+pub unrefused_status : (options : Options) (file script : List ℕ) (why : Fault) → WhyNot options file script why → options.strict ≡ false → status_by why ≤ 2
+unrefused_status options file script (fault.Refused told) reason plain = absurd (let strict = refused_strict options file script (fault.Refused told) reason tt in cc)
+unrefused_status options file script (fault.Unreadable error) reason plain = omega arith
+unrefused_status options file script fault.TooLong reason plain = omega arith
+unrefused_status options file script (fault.Script (at.At number cause)) reason plain = omega arith
+unrefused_status options file script (fault.Script at.Memory) reason plain = omega arith
+unrefused_status options file script (fault.Placed (at.At number cause) told) reason plain = omega arith
+unrefused_status options file script (fault.Placed at.Memory told) reason plain = omega arith
+unrefused_status options file script (fault.Memory wanted) reason plain = omega arith
+unrefused_status options file script (fault.Unwritable error) reason plain = omega arith
+
+-- ---- of a status that is the fault's, or that of too little memory to say so
+
+abbrev pub Has : Fault → ℕ → Type 0
+Has why status = (status ≡ status_by why) ⊎ (status ≡ 2)
+
+pub status_is : (why : Fault) (status : ℕ) → Has why status → (status ≡ 2 → ⊥) → status_by why ≡ status
+status_is why status (inl is) owed = sym is
+status_is why status (inr lacks) owed = absurd (owed lacks)
+
+pub bad_is : (why : Fault) (status : ℕ) → Has why status → status ≡ 1 → status_by why ≡ 1
+bad_is why status has bad = status_is why status has (λ lacks. omega (arith, bad, lacks)) ∙ bad
+
+pub last_is : (why : Fault) (status : ℕ) → Has why status → status ≡ 3 → IsRefused why
+last_is why status has last = refused_is why (status_is why status has (λ lacks. omega (arith, last, lacks)) ∙ last)
+
+pub unsound_has : (options : Options) (file script : List ℕ) (why : Fault) (status : ℕ) → WhyNot options file script why → Has why status → IsUnsound script → (status ≡ 1) ⊎ (status ≡ 2)
+unsound_has options file script why status reason (inr lacks) unsound = inr lacks
+unsound_has options file script why status reason (inl is) unsound = elim (unsound_status options file script why reason unsound) [ inl bad ↦ inl (is ∙ bad) | inr lacks ↦ inr (is ∙ lacks) ]
+
+pub unrefused_has : (options : Options) (file script : List ℕ) (why : Fault) (status : ℕ) → WhyNot options file script why → options.strict ≡ false → Has why status → status ≤ 2
+unrefused_has options file script why status reason plain (inl is) = let most = unrefused_status options file script why reason plain in omega (arith, is, most)
+unrefused_has options file script why status reason plain (inr lacks) = omega (arith, lacks)
+
+-- what was said of it is whole
+pub tells_has : (options : Options) (file script said text : List ℕ) (why : Fault) (status : ℕ) → WhyNot options file script why → Has why status → (status ≡ 2 → ⊥)
+    → AllTold (Appends (Some said) (Some text)) why → Tells options file script said text status
+tells_has options file script said text why status reason has owed tells = record { why = why; reason = reason; has = sym (status_is why status has owed); tells = tells }
