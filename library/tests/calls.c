@@ -157,7 +157,7 @@ static void check_statuses(void)
     struct memcgrun_options options = MEMCGRUN_OPTIONS_INIT;
     struct answer answer;
     size_t longest = (size_t)1 << 26;
-    uint8_t *script = calloc(longest + 1, 1);
+    uint8_t *script = malloc(longest + 1);
     EXPECT(SCHEDULE, faulty, NULL, MEMCGRUN_BAD_SCRIPT, "", "line 2: missing argument\n");
     EXPECT(TABLE, faulty, NULL, MEMCGRUN_BAD_SCRIPT, "", "line 2: missing argument\n");
     EXPECT(CHECKED, faulty, NULL, MEMCGRUN_BAD_SCRIPT, "", "script: line 2: missing argument\n");
@@ -178,7 +178,7 @@ static void check_statuses(void)
     free_both(&answer);
     if (!script)
         exit(70);
-    memset(script, '\n', longest + 1);
+    memset(script, '#', longest + 1);
     for (enum kind kind = SCHEDULE; kind <= CHECKED; kind++) {
         answer = bytes_ask(kind, script, longest + 1, NULL);
         CHECK(answer.status == MEMCGRUN_BAD_SCRIPT && answer.out.len == 0);
