@@ -1,7 +1,13 @@
-/* ask CALL FILE [BYTES]: one call of the library. CALL is schedule, labels, strict, chart, table or check, and ends with -as-linux where
- * pages are to be placed so. What it gives goes to standard output and standard error, and its status is the exit status. With BYTES the buffers of the first call have
- * so many bytes, and what is behind them must stay as it was. ask threads FILE makes that call on several threads at once,
- * many times, and each has to give the same. */
+/* ask CALL FILE: one call of the library. CALL is schedule, chart, table or check, followed by options, as in schedule,--strict,--labels.
+ * What it gives goes to standard output and standard error, and its status is the exit status.
+ *
+ * ask threads FILE makes the call schedule on several threads at once, many times, and each has to give the same.
+ *
+ * ask many reads any number of requests from standard input and answers each on standard output. A request is a line
+ * "CALL LENGTH ROOM ..", followed by a script of LENGTH bytes. The first answer to it is that of the call. Then each ROOM, of which there
+ * may be none, gets the answer of the same run over buffers of ROOM bytes, and what is behind the buffers must stay as it was. An answer
+ * is a line "STATUS OUT ERR" with the lengths of both texts, followed by the bytes of both, of which a short buffer has only the first. */
+#define _POSIX_C_SOURCE 200809L
 #include <memcgrun.h>
 
 #include <pthread.h>
@@ -27,49 +33,122 @@ static bool begins(const char *call, const char *with)
     return !strncmp(call, with, strlen(with));
 }
 
-static int whole(const char *call, const uint8_t *script, size_t len)
+static bool has(const char *call, const char *option)
 {
-    struct memcgrun_text out, err;
-    bool table = begins(call, "table"), as_linux = strstr(call, "-as-linux");
-    struct memcgrun_asked asked = {.labels = begins(call, "labels"), .strict = begins(call, "strict"), .as_linux = as_linux};
-    int status = begins(call, "check") ? memcgrun_check(script, len, as_linux, &out, &err)
-        : table || begins(call, "chart") ? memcgrun_chart(script, len, table, as_linux, &out, &err)
-                                         : memcgrun_schedule(script, len, asked, &out, &err);
-    if (out.bytes)
-        fwrite(out.bytes, 1, out.len, stdout);
-    if (err.bytes)
-        fwrite(err.bytes, 1, err.len, stderr);
-    if (out.bytes && (out.bytes[out.len] || err.bytes[err.len]))
+    return strstr(call, option) != NULL;
+}
+
+static struct memcgrun_options options_of(const char *call)
+{
+    struct memcgrun_options options = MEMCGRUN_OPTIONS_INIT;
+    options.labels = has(call, ",--labels");
+    options.strict = has(call, ",--strict");
+    options.as_linux = has(call, ",--as-linux");
+    options.explain = has(call, ",--explain");
+    options.quiet = has(call, ",--quiet");
+    options.summary = has(call, ",--summary");
+    return options;
+}
+
+/* The call, with texts that end in a 0. */
+static int ask(const char *call, const uint8_t *script, size_t len, struct memcgrun_text *out, struct memcgrun_text *err)
+{
+    struct memcgrun_options options = options_of(call);
+    bool table = begins(call, "table");
+    int status = begins(call, "check") ? memcgrun_check(script, len, &options, out, err)
+        : table || begins(call, "chart") ? memcgrun_chart(script, len, &options, table, out, err)
+                                         : memcgrun_schedule(script, len, &options, out, err);
+    if (out->bytes && (out->bytes[out->len] || err->bytes[err->len]))
         exit(72);
-    memcgrun_text_free(&out);
-    memcgrun_text_free(&err);
-    memcgrun_text_free(&out);
     return status;
 }
 
+static void put(const uint8_t *bytes, size_t len, FILE *to)
+{
+    if (len && fwrite(bytes, 1, len, to) != len)
+        exit(79);
+}
+
+static void free_both(struct memcgrun_text *out, struct memcgrun_text *err)
+{
+    memcgrun_text_free(out);
+    memcgrun_text_free(err);
+    memcgrun_text_free(out);
+}
+
+static int whole(const char *call, const uint8_t *script, size_t len)
+{
+    struct memcgrun_text out, err;
+    int status = ask(call, script, len, &out, &err);
+    put(out.bytes, out.len, stdout);
+    put(err.bytes, err.len, stderr);
+    free_both(&out, &err);
+    return status;
+}
+
+static void answer(int status, struct memcgrun_lengths has, const uint8_t *out, size_t out_len, const uint8_t *err, size_t err_len)
+{
+    printf("%d %zu %zu\n", status, has.out, has.err);
+    put(out, out_len, stdout);
+    put(err, err_len, stdout);
+}
+
 /* The first bytes of a run whose buffers are short. */
-static int front(const uint8_t *script, size_t len, size_t room)
+static void front(const char *call, const uint8_t *script, size_t len, size_t room)
 {
     enum { BEHIND = 8, MARK = 0xa5 };
     uint8_t *out = malloc(room + BEHIND), *err = malloc(room + BEHIND);
+    struct memcgrun_options options = options_of(call);
     struct memcgrun_lengths lengths;
+    size_t out_len, err_len;
     int status;
     if (!out || !err)
         exit(73);
     memset(out, MARK, room + BEHIND);
     memset(err, MARK, room + BEHIND);
-    status = memcgrun_schedule_into(script, len, (struct memcgrun_asked){0}, out, room, err, room, &lengths);
-    for (size_t i = lengths.out < room ? lengths.out : room; i < room + BEHIND; i++)
+    status = memcgrun_schedule_into(script, len, &options, out, room, err, room, &lengths);
+    out_len = lengths.out < room ? lengths.out : room;
+    err_len = lengths.err < room ? lengths.err : room;
+    for (size_t i = out_len; i < room + BEHIND; i++)
         if (out[i] != MARK)
             exit(74);
-    for (size_t i = lengths.err < room ? lengths.err : room; i < room + BEHIND; i++)
+    for (size_t i = err_len; i < room + BEHIND; i++)
         if (err[i] != MARK)
             exit(75);
-    fwrite(out, 1, lengths.out < room ? lengths.out : room, stdout);
-    fwrite(err, 1, lengths.err < room ? lengths.err : room, stderr);
+    answer(status, lengths, out, out_len, err, err_len);
     free(out);
     free(err);
-    return status;
+}
+
+/* Whether there was a next request: its answers are written, and stay if a later one ends the process. */
+static bool next(void)
+{
+    enum { LONGEST = 256 };
+    char line[LONGEST], *words, *call, *word;
+    struct memcgrun_text out, err;
+    uint8_t *script;
+    size_t len;
+    int status;
+    if (!fgets(line, sizeof line, stdin))
+        return false;
+    call = strtok_r(line, " \n", &words);
+    word = strtok_r(NULL, " \n", &words);
+    if (!call || !word)
+        exit(80);
+    len = strtoul(word, NULL, 10);
+    /* Exactly as many bytes as the script has, so that a read beyond them is seen. */
+    script = malloc(len ? len : 1);
+    if (!script || fread(script, 1, len, stdin) != len)
+        exit(81);
+    status = ask(call, len ? script : NULL, len, &out, &err);
+    answer(status, (struct memcgrun_lengths){out.len, err.len}, out.bytes, out.len, err.bytes, err.len);
+    free_both(&out, &err);
+    while ((word = strtok_r(NULL, " \n", &words)))
+        front(call, script, len, strtoul(word, NULL, 10));
+    free(script);
+    if (fflush(stdout))
+        exit(79);
+    return true;
 }
 
 struct turn {
@@ -84,7 +163,7 @@ static void *again(void *given)
     const struct turn *turn = given;
     for (int i = 0; i < TIMES; i++) {
         struct memcgrun_text out, err;
-        memcgrun_schedule(turn->script, turn->len, (struct memcgrun_asked){0}, &out, &err);
+        memcgrun_schedule(turn->script, turn->len, NULL, &out, &err);
         if (!out.bytes || out.len != turn->wanted.len || memcmp(out.bytes, turn->wanted.bytes, out.len))
             exit(77);
         memcgrun_text_free(&out);
@@ -99,7 +178,7 @@ static int on_threads(const uint8_t *script, size_t len)
     struct memcgrun_text err;
     struct turn turn = {.script = script, .len = len};
     pthread_t threads[THREADS];
-    int status = memcgrun_schedule(script, len, (struct memcgrun_asked){0}, &turn.wanted, &err);
+    int status = memcgrun_schedule(script, len, NULL, &turn.wanted, &err);
     for (int i = 0; i < THREADS; i++)
         if (pthread_create(&threads[i], NULL, again, &turn))
             exit(78);
@@ -116,12 +195,15 @@ int main(int count, char **words)
     size_t len;
     uint8_t *script;
     int status;
-    if (count < 3)
+    if (count == 2 && !strcmp(words[1], "many")) {
+        while (next())
+            ;
+        return ferror(stdin) ? 82 : 0;
+    }
+    if (count != 3)
         return 76;
     script = read_all(words[2], &len);
-    if (count > 3)
-        status = front(script, len, strtoul(words[3], NULL, 10));
-    else if (!strcmp(words[1], "threads"))
+    if (!strcmp(words[1], "threads"))
         status = on_threads(script, len);
     else
         status = whole(words[1], len ? script : NULL, len);

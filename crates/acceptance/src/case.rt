@@ -95,32 +95,3 @@ pub fn numbered(
     }
     Ok(lines)
 }
-
-/// A command that is under way, and what is done between two of its turns.
-pub struct Between {
-    /// The lines up to the one that begins the command.
-    pub begun: &'static str,
-    /// The line of one of its turns.
-    pub turn: &'static str,
-    /// The lines that follow.
-    pub then: &'static str,
-}
-
-impl Between {
-    /// Where they follow after so many turns, the script prints this.
-    pub fn prints<R: Abort + AllocGlobal>(
-        &self,
-        rt: &R,
-        name: &str,
-        turns: u32,
-        out: &str,
-    ) -> Result<(), AllocError> {
-        let mut script = String::from_str(rt.alloc(), self.begun)?;
-        for _ in 0..turns {
-            script.push_str(self.turn)?;
-        }
-        script.push_str(self.then)?;
-        prints(rt, name, &script, out);
-        Ok(())
-    }
-}

@@ -25,7 +25,7 @@ fn drawn<R: Abort + AllocGlobal>(rt: &R, kind: Drawing, title: &str, script: &st
 }
 
 #[test]
-fn a_table_has_each_line(rt: HostRuntime) {
+fn a_table_has_each_line_where_the_group_is_there(rt: HostRuntime) {
     let out = drawn(&rt, Drawing::Table, "", KILLED);
     let table = "\
 line,group,current,anon,file,max,min,low,refused,oom,oom_kill
@@ -37,10 +37,23 @@ line,group,current,anon,file,max,min,low,refused,oom,oom_kill
 6,/a,0,0,0,8192,0,0,1,1,1
 ";
     assert_eq!(rt; str::from_utf8(&out), Ok(table));
+    // A group that is made anew goes on where it stands.
+    let script = "group /a\ntask 1 /a\n1 write 0 0 1\n1 exit\nrmdir /a\ngroup /a\n";
+    let out = drawn(&rt, Drawing::Table, "", script);
+    // Behind line 5 no group has the path.
+    let table = "\
+line,group,current,anon,file,max,min,low,refused,oom,oom_kill
+1,/a,0,0,0,max,0,0,0,0,0
+2,/a,0,0,0,max,0,0,0,0,0
+3,/a,4096,4096,0,max,0,0,0,0,0
+4,/a,0,0,0,max,0,0,0,0,0
+6,/a,0,0,0,max,0,0,0,0,0
+";
+    assert_eq!(rt; str::from_utf8(&out), Ok(table));
 }
 
 #[test]
-fn a_picture_has_the_curve_and_the_marks(rt: HostRuntime) {
+fn a_picture_has_the_curve_the_marks_and_a_max_that_is_near(rt: HostRuntime) {
     let out = drawn(&rt, Drawing::Picture, "a<b", KILLED);
     let text = str::from_utf8(&out).unwrap_or("");
     assert!(rt; text.contains(">memory.current: a&lt;b</text>"));
@@ -52,11 +65,7 @@ fn a_picture_has_the_curve_and_the_marks(rt: HostRuntime) {
     assert!(rt; text.contains(refused));
     assert!(rt; text.contains("/a, peak 8K"));
     assert!(rt; text.starts_with("<svg ") && text.ends_with("</svg>\n"));
-}
-
-// Of a max of 1G nothing is drawn, where no more than a page is charged.
-#[test]
-fn a_max_that_is_far_away_is_not_drawn(rt: HostRuntime) {
+    // Of a max of 1G nothing is drawn, where no more than a page is charged.
     let script = "group /a\nset /a memory.max 1G\ntask 1 /a\n1 write 0 0 1\n";
     let out = drawn(&rt, Drawing::Picture, "", script);
     let text = str::from_utf8(&out).unwrap_or("");
@@ -87,22 +96,6 @@ line,group,current,anon,file,max,min,low,refused,oom,oom_kill
     assert!(rt; text.contains("stroke-dasharray=\"8 3 2 3\""), "{text}");
     assert!(rt; text.contains(low), "{text}");
     assert!(rt; !text.contains("stroke-dasharray=\"2 3\""), "{text}");
-}
-
-#[test]
-fn a_group_that_is_made_anew_goes_on_where_it_stands(rt: HostRuntime) {
-    let script = "group /a\ntask 1 /a\n1 write 0 0 1\n1 exit\nrmdir /a\ngroup /a\n";
-    let out = drawn(&rt, Drawing::Table, "", script);
-    // Behind line 5 no group has the path.
-    let table = "\
-line,group,current,anon,file,max,min,low,refused,oom,oom_kill
-1,/a,0,0,0,max,0,0,0,0,0
-2,/a,0,0,0,max,0,0,0,0,0
-3,/a,4096,4096,0,max,0,0,0,0,0
-4,/a,0,0,0,max,0,0,0,0,0
-6,/a,0,0,0,max,0,0,0,0,0
-";
-    assert_eq!(rt; str::from_utf8(&out), Ok(table));
 }
 
 #[test]

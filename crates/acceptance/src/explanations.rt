@@ -1,10 +1,9 @@
-//! What more is said of a fault, and why lines are refused, of scripts that no file of cases can have, or that are long.
+//! What more is said of a fault, and why lines are refused, of scripts that no file of cases can have.
 
-use crate::case::{explains, explains_refusals, numbered};
-use std::test::Fail;
+use crate::case::{explains, explains_refusals};
 
 #[test]
-fn a_byte_that_is_no_text_is_named(rt: HostRuntime) {
+fn a_byte_that_is_no_text_and_a_mark_of_the_encoding_are_named(rt: HostRuntime) {
     explains(
         &rt,
         "a byte that no character has",
@@ -17,20 +16,26 @@ fn a_byte_that_is_no_text_is_named(rt: HostRuntime) {
         b"# \xc3\n",
         "case:1: not text\nbyte 3 of the line, 0xc3, is part of no character of UTF-8\n",
     );
-}
-
-#[test]
-fn a_mark_of_the_encoding_is_named(rt: HostRuntime) {
     explains(
         &rt,
-        "of UTF-8",
+        "a mark of UTF-8",
         b"\xef\xbb\xbfgroup /a\n",
         "case:1: unknown word\nword 1, \"\\u{feff}group\", begins with a byte order mark, which no script may have\n",
     );
     let utf16 =
         "case:1: not text\nthe script begins with a byte order mark of UTF-16, and has to be UTF-8\n";
-    explains(&rt, "of UTF-16, low byte first", b"\xff\xfeg\0\n\0", utf16);
-    explains(&rt, "of UTF-16, high byte first", b"\xfe\xff\0g\0\n", utf16);
+    explains(
+        &rt,
+        "a mark of UTF-16, low byte first",
+        b"\xff\xfeg\0\n\0",
+        utf16,
+    );
+    explains(
+        &rt,
+        "a mark of UTF-16, high byte first",
+        b"\xfe\xff\0g\0\n",
+        utf16,
+    );
 }
 
 #[test]
@@ -53,38 +58,6 @@ fn control_characters_are_written_out(rt: HostRuntime) {
         b"group /\x1b[1m\n",
         "case:1: bad name\nword 2, \"/\\u{1b}[1m\", is no path: it has the character '\\u{1b}', which no name has\n",
     );
-}
-
-#[test]
-fn as_many_groups_as_there_can_be(rt: HostRuntime) -> Result<(), Fail> {
-    let mut script = numbered(rt.alloc(), "group /g", 1..=255, "")?;
-    script.push_str("group /h\n")?;
-    explains_refusals(
-        &rt,
-        "256 groups, the root counted",
-        &script,
-        "error ENOSPC\n",
-        "case:256: group /h: ENOSPC, there are 256 groups already, the root counted, which are the most\n",
-    );
-    Ok(())
-}
-
-#[test]
-fn as_many_tasks_as_there_can_be(rt: HostRuntime) -> Result<(), Fail> {
-    let mut script = numbered(rt.alloc(), "task ", 1..=1024, " /")?;
-    script.push_str("task 1025 /\n1 fork 1025\n")?;
-    explains_refusals(
-        &rt,
-        "1,024 tasks",
-        &script,
-        "error ENOSPC\n1 ENOSPC\n",
-        "case:1025: task 1025 /: ENOSPC, 1024 tasks live already, which are the most\ncase:1026: 1 fork 1025: ENOSPC, 1024 tasks live already, which are the most\n",
-    );
-    Ok(())
-}
-
-#[test]
-fn control_characters_of_a_refused_line_are_written_out(rt: HostRuntime) {
     explains_refusals(
         &rt,
         "an escape sequence in an amount",

@@ -3,37 +3,6 @@
 use crate::case::{numbered, prints};
 use std::test::Fail;
 
-// The group has room for 50 pages. Forty tasks make ten pages each, and after each of them task 1 uses its
-// own ten. The first forty of those pages find room, and 360 are refused at first.
-#[test]
-fn ten_pages_stay_that_are_used_while_four_hundred_pass_by(rt: HostRuntime) -> Result<(), Fail> {
-    let alloc = rt.alloc();
-    let tasks = numbered(alloc, "task ", 2..=41, " /a")?;
-    let mut lines = numbered(alloc, "1 write ", 1..=10, " 0 1")?;
-    let uses = numbered(alloc, "1 read ", 1..=10, " 0")?;
-    for task in 2..=41u32 {
-        let writes = format!(in alloc; "{task} write ")?;
-        lines.push_str(&numbered(alloc, &writes, 1..=10, " 0 2")?)?;
-        lines.push_str(&uses)?;
-    }
-    let script = format!(in alloc;
-        "\
-swap 400
-group /a
-set /a memory.max 200K
-task 1 /a
-{tasks}{lines}cat /a memory.current
-cat /a memory.events
-"
-    )?;
-    let bytes = "1 1\n".repeat(alloc, 400)?;
-    let printed = format!(in alloc;
-        "{bytes}204800\nlow 0\nhigh 0\nmax 360\noom 0\noom_kill 0\noom_group_kill 0\n"
-    )?;
-    prints(&rt, "no use of theirs wants room", &script, &printed);
-    Ok(())
-}
-
 // Three tasks make 1,000 pages each, one after the other.
 const MANY: &str = "\
 frames 3000

@@ -1,4 +1,4 @@
-//! Scripts that are not run, for the first line that has a fault.
+//! Scripts that are not run, for the first line that has a fault: those with bytes that no line of a file of cases has.
 
 use crate::case::{faults, faults_in_bytes, prints};
 use std::alloc::{AllocError, Global};
@@ -6,7 +6,7 @@ use std::process::Abort;
 use std::test::Fail;
 
 #[test]
-fn the_first_faulty_line_is_named(rt: HostRuntime) {
+fn lines_are_counted_however_they_end_and_other_characters_are_of_their_word(rt: HostRuntime) {
     faults(
         &rt,
         "skipped lines are counted",
@@ -21,161 +21,88 @@ fn the_first_faulty_line_is_named(rt: HostRuntime) {
     );
     faults(
         &rt,
-        "between others",
-        "group /a\nbar\nframes 4",
-        "line 2: unknown word\n",
-    );
-    faults(
-        &rt,
-        "before one of an earlier cause",
-        "frames 4\nframes 5\nfoo",
+        "a header twice, with the same size",
+        "frames 64\r\nframes 64\r\n",
         "line 2: header twice\n",
     );
-    faults_in_bytes(
+    let word = "line 1: unknown word\n";
+    let number = "line 1: bad number\n";
+    let name = "line 1: bad name\n";
+    faults(&rt, "a byte order mark", "\u{feff}group /a", word);
+    faults(&rt, "a carriage return alone", "\r", word);
+    faults(
         &rt,
-        "before one that is not text",
-        b"group a\n\xff",
-        "line 1: bad name\n",
+        "two carriage returns before the line feed",
+        "\r\r\n",
+        word,
     );
     faults(
         &rt,
-        "after an empty line",
-        "\n99999999999 read 0 0",
-        "line 2: bad number\n",
+        "a vertical tab sets no words apart",
+        "group\u{b}/a",
+        word,
+    );
+    faults(
+        &rt,
+        "two carriage returns behind a number",
+        "frames 4\r\r\n",
+        number,
+    );
+    faults(
+        &rt,
+        "a carriage return without a line feed, behind a number",
+        "frames 4\r",
+        number,
+    );
+    faults(
+        &rt,
+        "a carriage return without a line feed, behind a name",
+        "group /a\r",
+        name,
     );
 }
 
 #[test]
 fn not_text(rt: HostRuntime) {
+    let first = "line 1: not text\n";
     faults_in_bytes(
         &rt,
         "a byte that no character has",
         b"group /a\n\xff\n",
         "line 2: not text\n",
     );
-    faults_in_bytes(&rt, "in a comment", b"# \xc3\x28\n", "line 1: not text\n");
+    faults_in_bytes(&rt, "in a comment", b"# \xc3\x28\n", first);
     faults_in_bytes(
         &rt,
         "a character that is cut off by the line's end",
         b"# \xe4\xb8\n\xad\n",
-        "line 1: not text\n",
+        first,
     );
-    faults_in_bytes(
-        &rt,
-        "before the unknown word",
-        b"foo \xff\n",
-        "line 1: not text\n",
-    );
-    faults_in_bytes(
-        &rt,
-        "not for a later line, where an earlier one is faulty",
-        b"foo\n\xff\n",
-        "line 1: unknown word\n",
-    );
+    faults_in_bytes(&rt, "before the unknown word", b"foo \xff\n", first);
     faults_in_bytes(
         &rt,
         "in a word",
         b"\n\nfoo\xff frames\n",
         "line 3: not text\n",
     );
+    faults_in_bytes(&rt, "a character of two lines", b"\xc3\n\xa9", first);
     faults_in_bytes(
         &rt,
-        "a character of two lines",
-        b"\xc3\n\xa9",
-        "line 1: not text\n",
+        "not for a later line, where an earlier one has an unknown word",
+        b"foo\n\xff\n",
+        "line 1: unknown word\n",
     );
-}
-
-#[test]
-fn unknown_word(rt: HostRuntime) {
-    let line = "line 1: unknown word\n";
-    faults(&rt, "a byte order mark", "\u{feff}group /a", line);
-    faults(&rt, "a carriage return alone", "\r", line);
-    faults(
+    faults_in_bytes(
         &rt,
-        "two carriage returns before the line feed",
-        "\r\r\n",
-        line,
+        "nor where it has a bad name",
+        b"group a\n\xff",
+        "line 1: bad name\n",
     );
-    faults(
+    faults_in_bytes(
         &rt,
-        "a vertical tab sets no words apart",
-        "group\u{b}/a",
-        line,
-    );
-}
-
-#[test]
-fn unknown_word_for_an_actor(rt: HostRuntime) {
-    let line = "line 1: unknown word\n";
-    faults(&rt, "digits that are not ASCII", "step \u{0664}", line);
-}
-
-#[test]
-fn bad_number_of_a_size(rt: HostRuntime) {
-    let line = "line 1: bad number\n";
-    faults(&rt, "digits that are not ASCII", "frames \u{0664}", line);
-    faults(
-        &rt,
-        "two carriage returns before the line feed",
-        "frames 4\r\r\n",
-        line,
-    );
-    faults(
-        &rt,
-        "a carriage return without a line feed",
-        "frames 4\r",
-        line,
-    );
-}
-
-#[test]
-fn bad_name(rt: HostRuntime) {
-    let line = "line 1: bad name\n";
-    faults(&rt, "a letter that is not ASCII", "group /\u{e9}", line);
-    faults(
-        &rt,
-        "a carriage return without a line feed",
-        "group /a\r",
-        line,
-    );
-}
-
-#[test]
-fn files_and_texts_are_any_words(rt: HostRuntime) {
-    prints(
-        &rt,
-        "a file's name and a text may be any words",
-        "cat / \u{e9}@..\nset / // 12x\n",
-        "error ENOENT\nerror ENOENT\n",
-    );
-}
-
-#[test]
-fn header_after_commands(rt: HostRuntime) {
-    let line = "line 2: header after commands\n";
-    faults(
-        &rt,
-        "with a comment between",
-        "1 read 0 0\n# x\ntrace 4",
-        "line 3: header after commands\n",
-    );
-}
-
-#[test]
-fn header_twice(rt: HostRuntime) {
-    let line = "line 2: header twice\n";
-    faults(
-        &rt,
-        "with the other between",
-        "trace 4\nframes 4\n\ntrace 4",
-        "line 4: header twice\n",
-    );
-    faults(
-        &rt,
-        "with the same size",
-        "frames 64\r\nframes 64\r\n",
-        line,
+        "nor are watermarks compared with frames behind such a line",
+        b"watermarks 64 65\nswap \xff\nframes 65\n",
+        "line 1: bad number\n",
     );
 }
 

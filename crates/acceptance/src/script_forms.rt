@@ -1,9 +1,9 @@
-//! What a script may look like.
+//! What a script may look like: where its lines end.
 
 use crate::case::prints;
 
 #[test]
-fn a_script_may_ask_for_nothing(rt: HostRuntime) {
+fn lines_end_with_a_line_feed_or_two_characters_or_the_script(rt: HostRuntime) {
     prints(&rt, "a space", " ", "");
     prints(
         &rt,
@@ -12,10 +12,6 @@ fn a_script_may_ask_for_nothing(rt: HostRuntime) {
         "",
     );
     prints(&rt, "a comment without a line feed", "# a comment", "");
-}
-
-#[test]
-fn lines_and_words_are_set_apart(rt: HostRuntime) {
     prints(
         &rt,
         "the last line may lack its line feed",
@@ -36,20 +32,35 @@ fn lines_and_words_are_set_apart(rt: HostRuntime) {
     );
     prints(
         &rt,
-        "a comment need not be English",
-        "# \u{df}\u{4e2d}\u{1f600}\n",
-        "",
-    );
-    prints(
-        &rt,
         "all of it at once",
         "frames 16\ngroup /a\r\n\n# two\ntask 1 /a\n1 write 0 0 9\n1 read 0 0\r\ncat /a memory.current",
         "1 9\n4096\n",
     );
     prints(
         &rt,
-        "a `#` that does not begin a line is a word like others",
-        "set / # \u{e9}\ngroup\t/a/b.c/-_9\n",
-        "error ENOENT\nerror ENOENT\n",
+        "what the header may say of the device, with zeros in front",
+        "\tswap  0002\r\n fault\t read \t01\r\nfault write 0000000000000000000002",
+        "",
+    );
+    prints(
+        &rt,
+        "watermarks, with zeros in front",
+        "\twatermarks  00\t 0002\r\nframes 2",
+        "",
+    );
+    prints(
+        &rt,
+        "watermarks, prot and the daemon",
+        "\
+ \twatermarks\t1   2 \r
+group /a
+\tprot  /\t/a \r
+  begin \tprot / /a\t
+ step\t control
+ daemon\t
+begin  daemon \r
+\tstep \t daemon
+finish\tdaemon",
+        "0\n0\ndaemon idle\n",
     );
 }

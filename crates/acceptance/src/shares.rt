@@ -142,18 +142,14 @@ fn is_shared<R: Abort + AllocGlobal>(
     Ok(())
 }
 
+// With the word the rest is shared too, without it only what is asked for.
 #[test]
-fn with_the_word_the_rest_is_shared_too(rt: HostRuntime) -> Result<(), Fail> {
-    is_shared(&rt, true, 3, 5, 0)?;
-    is_shared(&rt, true, 3, 5, 2)?;
-    is_shared(&rt, true, 0, 3, 1)?;
-    is_shared(&rt, true, 4, 1, 0)
-}
-
-#[test]
-fn without_the_word_what_is_asked_for_is_shared(rt: HostRuntime) -> Result<(), Fail> {
-    is_shared(&rt, false, 3, 5, 0)?;
-    is_shared(&rt, false, 3, 5, 2)?;
-    is_shared(&rt, false, 0, 3, 1)?;
-    is_shared(&rt, false, 4, 1, 0)
+fn what_children_have_is_shared_by_the_rule(rt: HostRuntime) -> Result<(), Fail> {
+    for recursive in [true, false] {
+        is_shared(&rt, recursive, 3, 5, 0)?;
+        is_shared(&rt, recursive, 3, 5, 2)?;
+        is_shared(&rt, recursive, 0, 3, 1)?;
+        is_shared(&rt, recursive, 4, 1, 0)?;
+    }
+    Ok(())
 }
