@@ -1,36 +1,211 @@
-/* Calls whose texts the library allocates, over those that write into buffers of the caller. */
+/* The calls of memcgrun.h over the proved functions: they read the options, and allocate the texts. No proof covers this file. */
 #include "memcgrun.h"
 
 #include <stdlib.h>
 
-/* The first run's room, which few scripts want more of. Pages of it that are not written to cost nothing. */
+/* ---- the proved functions. crates/memcgrun_c/src/lib.rt has their contracts
+ *
+ * No program calls them: what is declared here may change with any version. Their caller owes what no contract can ask of C: no pointer is null, even if its
+ * length is 0; no two of the memories overlap; each length is below 2^63; and each bool is 0 or 1. */
+
+struct memcgrun_proved_asked {
+    uint32_t turns;
+    bool labels;
+    bool strict;
+    bool as_linux;
+    bool explain;
+    bool quiet;
+    bool summary;
+};
+
+/* They answer MEMCGRUN_OK, MEMCGRUN_BAD_SCRIPT, MEMCGRUN_NO_MEMORY, MEMCGRUN_REFUSED or MEMCGRUN_DIFFERS. */
+uint8_t memcgrun_proved_schedule(const uint8_t *script, size_t script_len, const struct memcgrun_proved_asked *asked,
+                                 uint8_t *out, size_t out_len, uint8_t *err, size_t err_len,
+                                 struct memcgrun_lengths *lengths);
+uint8_t memcgrun_proved_chart(const uint8_t *script, size_t script_len, const struct memcgrun_proved_asked *asked, bool table,
+                              uint8_t *out, size_t out_len, uint8_t *err, size_t err_len,
+                              struct memcgrun_lengths *lengths);
+uint8_t memcgrun_proved_check(const uint8_t *script, size_t script_len, bool as_linux,
+                              uint8_t *out, size_t out_len, uint8_t *err, size_t err_len,
+                              struct memcgrun_lengths *lengths);
+
+/* ---- what the calls are given */
+
+/* The first run's room, which few scripts exceed. Pages of it that are not written to cost nothing. */
 enum { OUT_ROOM = 1 << 16, OUT_ROOM_EACH = 16, ERR_ROOM = 2048 };
 
+/* The largest size of options that is read: a larger one is not a size. */
+enum { MOST_OPTIONS = 4096 };
+
+enum { USUAL_TURNS = 1000 };
+
 enum call { SCHEDULE, CHART, CHECK };
+
+static const char *const names[] = {"schedule", "chart", "check"};
 
 /* Which call it is, and what it is given. */
 struct run {
     enum call call;
     const uint8_t *script;
     size_t len;
-    struct memcgrun_asked asked;
+    const struct memcgrun_options *options;
     bool table;
-    bool as_linux;
 };
 
-static uint8_t once(const struct run *run, uint8_t *out, uint8_t *err, struct memcgrun_lengths has,
-                    struct memcgrun_lengths *wanted)
+const char *memcgrun_version(void)
 {
-    const uint8_t *script = run->len ? run->script : (const uint8_t *)"";
+    return MEMCGRUN_VERSION;
+}
+
+/* ---- options */
+
+/* A line that says what is wrong with the options. */
+struct line {
+    char bytes[128];
+    size_t len;
+};
+
+static void add(struct line *line, const char *text)
+{
+    while (*text && line->len < sizeof line->bytes)
+        line->bytes[line->len++] = *text++;
+}
+
+static bool refuse(struct line *line, const char *why, const char *name, const char *end)
+{
+    add(line, "options: ");
+    add(line, why);
+    add(line, name);
+    add(line, end);
+    add(line, "\n");
+    return false;
+}
+
+/* A bool of the options, by its place. It is read as a byte, since a caller in another language may have left any byte there. */
+struct flag {
+    size_t at;
+    const char *name;
+    bool is_charts; /* memcgrun_chart takes it */
+    bool is_checks;
+};
+
+#define FLAG(name, is_charts, is_checks) {offsetof(struct memcgrun_options, name), #name, is_charts, is_checks}
+
+static const struct flag flags[] = {
+    FLAG(labels, false, false), FLAG(strict, false, false), FLAG(as_linux, true, true),
+    FLAG(explain, true, false), FLAG(quiet, false, false), FLAG(summary, false, false),
+};
+
+/* Nothing of the struct is padding, so that each byte of it has a meaning, or is one of those that are reserved. */
+_Static_assert(sizeof(struct memcgrun_options) == offsetof(struct memcgrun_options, reserved) + sizeof((struct memcgrun_options){0}.reserved),
+               "a member behind reserved, or padding");
+
+static bool takes(enum call call, const struct flag *flag)
+{
+    return call == SCHEDULE || (call == CHART ? flag->is_charts : flag->is_checks);
+}
+
+/* Reads as many bytes as the caller's version of the options has. Those that it lacks are 0, their default, and those that this version lacks have to be 0. */
+static bool copy_options(const struct memcgrun_options *given, struct memcgrun_options *options, struct line *line)
+{
+    const uint8_t *from = (const uint8_t *)given;
+    uint8_t *to = (uint8_t *)options;
+    size_t size = given->size;
+    if (size < offsetof(struct memcgrun_options, labels) || size > MOST_OPTIONS)
+        return refuse(line, "size is not sizeof(struct memcgrun_options)", "", "");
+    for (size_t at = 0; at < size; at++) {
+        bool is_ours = at < offsetof(struct memcgrun_options, reserved);
+        if (is_ours)
+            to[at] = from[at];
+        else if (from[at])
+            return refuse(line, "a member is set that version ", MEMCGRUN_VERSION, " does not have");
+    }
+    return true;
+}
+
+static bool read_options(const struct run *run, struct memcgrun_proved_asked *asked, struct line *line)
+{
+    struct memcgrun_options options = {0};
+    if (run->options && !copy_options(run->options, &options, line))
+        return false;
+    for (size_t i = 0; i < sizeof flags / sizeof *flags; i++) {
+        uint8_t flag = ((const uint8_t *)&options)[flags[i].at];
+        if (flag > 1)
+            return refuse(line, flags[i].name, " is neither 0 nor 1", "");
+        if (flag && !takes(run->call, &flags[i]))
+            return refuse(line, names[run->call], " does not take ", flags[i].name);
+    }
+    if (!options.turns)
+        options.turns = USUAL_TURNS;
+    if (options.turns != USUAL_TURNS && run->call == CHECK)
+        return refuse(line, names[run->call], " does not take ", "turns");
+    *asked = (struct memcgrun_proved_asked){options.turns, options.labels, options.strict, options.as_linux,
+                                            options.explain, options.quiet, options.summary};
+    return true;
+}
+
+/* ---- one run */
+
+/* The proved functions take no null pointer, even where the length is 0, and no length from 2^63 on. */
+static uint8_t nowhere[3];
+
+static size_t bounded(size_t len)
+{
+    return len < SIZE_MAX / 2 ? len : SIZE_MAX / 2;
+}
+
+static enum memcgrun_status once(const struct run *run, uint8_t *out, size_t out_len, uint8_t *err, size_t err_len,
+                                 struct memcgrun_lengths *lengths)
+{
+    struct memcgrun_proved_asked asked;
+    struct line line = {.len = 0};
+    const uint8_t *script = run->len ? run->script : &nowhere[0];
+    size_t len = bounded(run->len);
+    out = out_len ? out : &nowhere[1];
+    err = err_len ? err : &nowhere[2];
+    out_len = bounded(out_len);
+    err_len = bounded(err_len);
+    if (!read_options(run, &asked, &line)) {
+        for (size_t i = 0; i < line.len && i < err_len; i++)
+            err[i] = (uint8_t)line.bytes[i];
+        *lengths = (struct memcgrun_lengths){0, line.len};
+        return MEMCGRUN_BAD_OPTIONS;
+    }
     switch (run->call) {
     case SCHEDULE:
-        return memcgrun_schedule_into(script, run->len, run->asked, out, has.out, err, has.err, wanted);
+        return memcgrun_proved_schedule(script, len, &asked, out, out_len, err, err_len, lengths);
     case CHART:
-        return memcgrun_chart_into(script, run->len, run->table, run->as_linux, out, has.out, err, has.err, wanted);
+        return memcgrun_proved_chart(script, len, &asked, run->table, out, out_len, err, err_len, lengths);
     default:
-        return memcgrun_check_into(script, run->len, run->as_linux, out, has.out, err, has.err, wanted);
+        return memcgrun_proved_check(script, len, asked.as_linux, out, out_len, err, err_len, lengths);
     }
 }
+
+enum memcgrun_status memcgrun_schedule_into(const uint8_t *script, size_t script_len, const struct memcgrun_options *options,
+                                            uint8_t *out, size_t out_len, uint8_t *err, size_t err_len,
+                                            struct memcgrun_lengths *lengths)
+{
+    struct run run = {.call = SCHEDULE, .script = script, .len = script_len, .options = options};
+    return once(&run, out, out_len, err, err_len, lengths);
+}
+
+enum memcgrun_status memcgrun_chart_into(const uint8_t *script, size_t script_len, const struct memcgrun_options *options, bool table,
+                                         uint8_t *out, size_t out_len, uint8_t *err, size_t err_len,
+                                         struct memcgrun_lengths *lengths)
+{
+    struct run run = {.call = CHART, .script = script, .len = script_len, .options = options, .table = table};
+    return once(&run, out, out_len, err, err_len, lengths);
+}
+
+enum memcgrun_status memcgrun_check_into(const uint8_t *script, size_t script_len, const struct memcgrun_options *options,
+                                         uint8_t *out, size_t out_len, uint8_t *err, size_t err_len,
+                                         struct memcgrun_lengths *lengths)
+{
+    struct run run = {.call = CHECK, .script = script, .len = script_len, .options = options};
+    return once(&run, out, out_len, err, err_len, lengths);
+}
+
+/* ---- texts */
 
 static bool room(struct memcgrun_text *text, size_t len)
 {
@@ -51,15 +226,15 @@ void memcgrun_text_free(struct memcgrun_text *text)
     text->len = 0;
 }
 
-/* A run that wants more room than there was is made once more: want of memory may make it end otherwise then. */
-static int texts_of(const struct run *run, struct memcgrun_text *out, struct memcgrun_text *err)
+/* A run that needs more room than there was is made again. It may need still more then: what it could not have for want of memory it may have now. */
+static enum memcgrun_status texts_of(const struct run *run, struct memcgrun_text *out, struct memcgrun_text *err)
 {
     struct memcgrun_lengths has = {OUT_ROOM, ERR_ROOM}, wanted;
     *out = *err = (struct memcgrun_text){0};
     if (run->len < SIZE_MAX / OUT_ROOM_EACH - OUT_ROOM)
         has.out += OUT_ROOM_EACH * run->len;
     while (room(out, has.out) && room(err, has.err)) {
-        uint8_t status = once(run, out->bytes, err->bytes, has, &wanted);
+        enum memcgrun_status status = once(run, out->bytes, has.out, err->bytes, has.err, &wanted);
         if (wanted.out <= has.out && wanted.err <= has.err) {
             end(out, wanted.out);
             end(err, wanted.err);
@@ -75,24 +250,23 @@ static int texts_of(const struct run *run, struct memcgrun_text *out, struct mem
     return MEMCGRUN_NO_MEMORY;
 }
 
-int memcgrun_schedule(const uint8_t *script, size_t script_len, struct memcgrun_asked asked,
-                      struct memcgrun_text *out, struct memcgrun_text *err)
+enum memcgrun_status memcgrun_schedule(const uint8_t *script, size_t script_len, const struct memcgrun_options *options,
+                                       struct memcgrun_text *out, struct memcgrun_text *err)
 {
-    struct run run = {.call = SCHEDULE, .script = script, .len = script_len, .asked = asked};
+    struct run run = {.call = SCHEDULE, .script = script, .len = script_len, .options = options};
     return texts_of(&run, out, err);
 }
 
-int memcgrun_chart(const uint8_t *script, size_t script_len, bool table, bool as_linux,
-                   struct memcgrun_text *out, struct memcgrun_text *err)
+enum memcgrun_status memcgrun_chart(const uint8_t *script, size_t script_len, const struct memcgrun_options *options, bool table,
+                                    struct memcgrun_text *out, struct memcgrun_text *err)
 {
-    struct run run = {
-        .call = CHART, .script = script, .len = script_len, .table = table, .as_linux = as_linux};
+    struct run run = {.call = CHART, .script = script, .len = script_len, .options = options, .table = table};
     return texts_of(&run, out, err);
 }
 
-int memcgrun_check(const uint8_t *script, size_t script_len, bool as_linux,
-                   struct memcgrun_text *out, struct memcgrun_text *err)
+enum memcgrun_status memcgrun_check(const uint8_t *script, size_t script_len, const struct memcgrun_options *options,
+                                    struct memcgrun_text *out, struct memcgrun_text *err)
 {
-    struct run run = {.call = CHECK, .script = script, .len = script_len, .as_linux = as_linux};
+    struct run run = {.call = CHECK, .script = script, .len = script_len, .options = options};
     return texts_of(&run, out, err);
 }

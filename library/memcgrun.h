@@ -1,8 +1,8 @@
 /* memcgrun, a simulator of the memory controller of Linux cgroup v2, as a library.
  *
- * The three functions whose names end in _into are proved code; their contracts stand in crates/memcgrun_c/src/lib.rt.
- * The others are C over them (library/memcgrun.c), which is tested and not proved. Each call runs a script over a new
- * device, and keeps nothing, so calls may be made from several threads at once. */
+ * A call takes a script of memory control groups, runs it over a new device, and gives its answers, its chart, or the result of its check. A call keeps
+ * nothing, so several threads may call at the same time. Proved code does the work (crates/memcgrun_c/src/lib.rt has the contracts). The calls below are C
+ * over it (library/memcgrun.c), which is tested and not proved. docs/EMBED.md shows callers in C, Rust and Go. */
 #ifndef MEMCGRUN_H
 #define MEMCGRUN_H
 
@@ -14,64 +14,100 @@
 extern "C" {
 #endif
 
-/* What the calls answer: the program's exit status, or that there was no memory for their own buffers. */
-enum { MEMCGRUN_OK = 0, MEMCGRUN_FAILED = 1, MEMCGRUN_NO_MEMORY = 2 };
+/* The version of this header. */
+#define MEMCGRUN_VERSION "0.2.0"
 
-/* What is asked of a run beside its answers. */
-struct memcgrun_asked {
-    bool labels; /* before each line of an answer stand the number and the words of its line of the script */
-    bool strict; /* the first line that is refused ends the run, and is its fault */
-    bool as_linux; /* pages that are read in are placed as Linux does, and not by a rule of our own */
+/* The version of the library that the program is linked with. */
+const char *memcgrun_version(void);
+
+/* What a call answers. A later version may add more. */
+enum memcgrun_status {
+    /* The script ran to its end. From memcgrun_check: and it answered what it expects. */
+    MEMCGRUN_OK = 0,
+    /* Nothing ran: a line of the script is faulty, or the script is longer than 64 MiB. err names the first faulty line and its fault. */
+    MEMCGRUN_BAD_SCRIPT = 1,
+    /* There was too little memory. out has the beginning of the answers, or nothing; err may have the beginning of a line that says for what. */
+    MEMCGRUN_NO_MEMORY = 2,
+    /* With strict: a line was refused, and the run ended there. out has all answers up to that line's, and err says which line it was, and why. */
+    MEMCGRUN_REFUSED = 3,
+    /* From memcgrun_check: the script ran, and its answers differ from those it expects. out names the first difference. */
+    MEMCGRUN_DIFFERS = 4,
+    /* Nothing ran: the options are not valid, or the call does not take one of them. err says which. */
+    MEMCGRUN_BAD_OPTIONS = 5
 };
 
-/* Bytes that the library got by malloc, with a 0 behind the last, which is not counted. */
+/* What a caller may ask for beside the answers. Every default is 0, also that of each member that a later version adds. Set only what differs, as in
+ *
+ *     struct memcgrun_options options = MEMCGRUN_OPTIONS_INIT;
+ *     options.strict = true;
+ *
+ * or set size to sizeof(struct memcgrun_options) and all other bytes to 0. A null pointer to options asks for the defaults.
+ *
+ * size says which version of this header the program was compiled with. A library that is newer gives the members that the program does not have their
+ * defaults. A library that is older accepts members that it does not have if they are 0, and else answers MEMCGRUN_BAD_OPTIONS. */
+struct memcgrun_options {
+    size_t size;
+    uint32_t turns;      /* the most turns that a line takes before it answers `turn limit` (--turns); 0 means 1,000 */
+    bool labels;         /* put the number and the words of its line before each line of an answer (--labels) */
+    bool strict;         /* end the run at the first line that is refused: MEMCGRUN_REFUSED (--strict) */
+    bool as_linux;       /* place pages that are read in as Linux does, instead of by memcgrun's own rule (--as-linux) */
+    bool explain;        /* say in err why each line was refused and each task killed, and more of a faulty line (--explain) */
+    bool quiet;          /* leave out the bytes that tasks read (--quiet) */
+    bool summary;        /* say at the end of err how much was done (--summary) */
+    uint8_t reserved[6]; /* 0 */
+};
+
+#define MEMCGRUN_OPTIONS_INIT {sizeof(struct memcgrun_options), 1000, false, false, false, false, false, false, {0, 0, 0, 0, 0, 0}}
+
+/* ---- Calls that allocate their texts */
+
+/* Bytes that the library allocated with malloc, followed by a 0 that len does not count. */
 struct memcgrun_text {
     uint8_t *bytes;
     size_t len;
 };
 
-/* Runs a script, as `memcgrun schedule` does. out gets the answers, a line each. The answer is MEMCGRUN_OK; or
- * MEMCGRUN_FAILED, and then err gets the lines that say why (of a script with a faulty line nothing is run, and out is
- * empty); or MEMCGRUN_NO_MEMORY, and then both are empty. A script may be null where its length is 0. Both texts are
- * the caller's, to be given to memcgrun_text_free, whatever is answered. */
-int memcgrun_schedule(const uint8_t *script, size_t script_len, struct memcgrun_asked asked,
-                      struct memcgrun_text *out, struct memcgrun_text *err);
+/* Runs a script, as `memcgrun schedule` does, with any options. out gets the answers, a line each; err gets what explain and summary ask for, and then, if the
+ * status is neither MEMCGRUN_OK nor MEMCGRUN_NO_MEMORY, the whole of the lines that say why. The script may be null if its length is 0.
+ *
+ * The caller gives both texts to memcgrun_text_free, whatever the status is. After MEMCGRUN_NO_MEMORY their bytes may be null. */
+enum memcgrun_status memcgrun_schedule(const uint8_t *script, size_t script_len, const struct memcgrun_options *options,
+                                       struct memcgrun_text *out, struct memcgrun_text *err);
 
-/* The same run drawn, as `memcgrun chart` does: out gets what each group was charged with behind each line, as a table
- * of comma-separated values, or else as a picture, SVG. */
-int memcgrun_chart(const uint8_t *script, size_t script_len, bool table, bool as_linux,
-                   struct memcgrun_text *out, struct memcgrun_text *err);
+/* Draws the same run, as `memcgrun chart` does: out gets the memory that each group was charged with after each line, as a table of comma-separated values,
+ * or else as a picture, SVG. Takes the options turns, as_linux and explain. Nothing is drawn unless the status is MEMCGRUN_OK. */
+enum memcgrun_status memcgrun_chart(const uint8_t *script, size_t script_len, const struct memcgrun_options *options, bool table,
+                                    struct memcgrun_text *out, struct memcgrun_text *err);
 
-/* The same run held against the answers that the script's lines `#> ..` expect, as `memcgrun check` does: MEMCGRUN_OK
- * where they are the same. out gets the line that says what comes of it. */
-int memcgrun_check(const uint8_t *script, size_t script_len, bool as_linux,
-                   struct memcgrun_text *out, struct memcgrun_text *err);
+/* Compares the answers of a script with those that its lines `#> ..` expect, as `memcgrun check` does. out gets one line with the result, if there is one.
+ * Takes the option as_linux. */
+enum memcgrun_status memcgrun_check(const uint8_t *script, size_t script_len, const struct memcgrun_options *options,
+                                    struct memcgrun_text *out, struct memcgrun_text *err);
 
 /* Frees a text and leaves it empty, so that a second call does nothing. */
 void memcgrun_text_free(struct memcgrun_text *text);
 
-/* ---- over buffers of the caller */
+/* ---- The same calls into buffers of the caller */
 
-/* How many bytes there are, of which a buffer may have taken only the first. */
+/* The numbers of bytes of both texts, of which a buffer may have taken only the first. */
 struct memcgrun_lengths {
     size_t out;
     size_t err;
 };
 
-/* These write into buffers of the caller, each as many bytes as there is room for, and lengths says how many there are:
- * where a buffer is too short, call again with more room, since the same script gives the same bytes. They answer 0 or 1.
+/* Each writes as many bytes into a buffer as it has room for, changes nothing after them, adds no 0, and sets lengths to the numbers of bytes that there are.
+ * If a buffer is too short, call again with more room: the same script and options give the same bytes.
  *
- * What a caller owes, and nothing checks: no pointer is null, also not where its length is 0; none of the memories
- * overlaps another; each length is below 2^63; and each bool is 0 or 1. */
-uint8_t memcgrun_schedule_into(const uint8_t *script, size_t script_len, struct memcgrun_asked asked,
-                               uint8_t *out, size_t out_len, uint8_t *err, size_t err_len,
-                               struct memcgrun_lengths *lengths);
-uint8_t memcgrun_chart_into(const uint8_t *script, size_t script_len, bool table, bool as_linux,
-                            uint8_t *out, size_t out_len, uint8_t *err, size_t err_len,
-                            struct memcgrun_lengths *lengths);
-uint8_t memcgrun_check_into(const uint8_t *script, size_t script_len, bool as_linux,
-                            uint8_t *out, size_t out_len, uint8_t *err, size_t err_len,
-                            struct memcgrun_lengths *lengths);
+ * The script and the buffers may be null if their lengths are 0. lengths is not null, and no two of the memories overlap: nothing checks that. */
+enum memcgrun_status memcgrun_schedule_into(const uint8_t *script, size_t script_len, const struct memcgrun_options *options,
+                                            uint8_t *out, size_t out_len, uint8_t *err, size_t err_len,
+                                            struct memcgrun_lengths *lengths);
+enum memcgrun_status memcgrun_chart_into(const uint8_t *script, size_t script_len, const struct memcgrun_options *options, bool table,
+                                         uint8_t *out, size_t out_len, uint8_t *err, size_t err_len,
+                                         struct memcgrun_lengths *lengths);
+enum memcgrun_status memcgrun_check_into(const uint8_t *script, size_t script_len, const struct memcgrun_options *options,
+                                         uint8_t *out, size_t out_len, uint8_t *err, size_t err_len,
+                                         struct memcgrun_lengths *lengths);
 
 #ifdef __cplusplus
 }

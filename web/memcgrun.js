@@ -12,34 +12,48 @@ class Memcgrun {
     this.compiled = compiled;
   }
 
-  // What a script prints, as { status, out, err }: the status of `memcgrun schedule`, and the text of its two streams, in
-  // which the file is called script. With labels the number and the words of its line stand before each line of an answer;
-  // asLinux places pages as Linux does.
-  schedule(script, { labels = false, strict = false, asLinux = false } = {}) {
-    return this.#call(script, (exports, at, length, texts) => exports.page_schedule(at, length, Number(labels), Number(strict), Number(asLinux), texts));
+  // What a script prints, as { status, out, err }: a status of Memcgrun.STATUS, and the two texts of `memcgrun schedule`, in which the file
+  // is called script. The options are those of the program: labels, strict, asLinux, explain, quiet and summary are true or false, and turns is a number.
+  schedule(script, options = {}) {
+    return this.#call(script, options, 'page_schedule');
   }
 
-  // The picture that `memcgrun chart` draws, SVG, in the same form.
-  chart(script, { asLinux = false } = {}) {
-    return this.#call(script, (exports, at, length, texts) => exports.page_chart(at, length, Number(asLinux), texts));
+  // The picture that `memcgrun chart` draws, SVG, in the same form. It takes turns, asLinux and explain.
+  chart(script, options = {}) {
+    return this.#call(script, options, 'page_chart');
   }
 
-  #call(script, ask) {
+  #call(script, { turns = 0, ...asked }, call) {
     const { exports } = new WebAssembly.Instance(this.compiled, {});
     const given = typeof script === 'string' ? new TextEncoder().encode(script) : script;
     const at = exports.malloc(BigInt(given.length));
     const texts = exports.malloc(32n);
     if (!at || !texts) throw new Error('no memory for the script');
     new Uint8Array(exports.memory.buffer).set(given, Number(at));
-    const status = ask(exports, at, BigInt(given.length), texts);
-    if (status > 1) throw new Error('no memory for the answers');
+    const status = exports[call](at, BigInt(given.length), turns, flagsOf(asked), texts);
     // A text is where its bytes are, and how many.
     const read = (text) => {
       const [from, length] = new BigUint64Array(exports.memory.buffer, Number(text), 2);
       return new TextDecoder().decode(new Uint8Array(exports.memory.buffer, Number(from), Number(length)));
     };
-    return { status, out: read(texts), err: read(texts + 16n) };
+    const answer = { status, out: read(texts), err: read(texts + 16n) };
+    if (status === Memcgrun.STATUS.BAD_OPTIONS) throw new Error(answer.err.trimEnd());
+    if (status === Memcgrun.STATUS.NO_MEMORY && !answer.err) throw new Error('no memory for the answers');
+    return answer;
   }
+}
+
+// What a call answers, as memcgrun.h has it.
+Memcgrun.STATUS = Object.freeze({ OK: 0, BAD_SCRIPT: 1, NO_MEMORY: 2, REFUSED: 3, DIFFERS: 4, BAD_OPTIONS: 5 });
+
+// The bits of module.c.
+const FLAGS = { labels: 1, strict: 2, asLinux: 4, explain: 8, quiet: 16, summary: 32 };
+
+function flagsOf(asked) {
+  return Object.entries(asked).reduce((flags, [name, value]) => {
+    if (!FLAGS[name]) throw new Error(`no option is called ${name}`);
+    return value ? flags | FLAGS[name] : flags;
+  }, 0);
 }
 
 if (typeof module !== 'undefined') module.exports = { Memcgrun };

@@ -1,28 +1,30 @@
-/* What the page calls: the calls of library/memcgrun.c with arguments that JavaScript can give. No proof covers this file.
- *
- * The proved code was lowered for x86-64, where a struct of three bools is handed over as 24 bits; in C for WebAssembly it is a
- * pointer. So memcgrun_schedule_into has another name in C here (see build), and is called under its own by its parts. */
+/* What the page calls: the calls of library/memcgrun.c with arguments that JavaScript can give. No proof covers this file. */
 #include <memcgrun.h>
 
-extern uint8_t proved_schedule_into(const uint8_t *script, size_t script_len, uint32_t asked,
-                                    uint8_t *out, size_t out_len, uint8_t *err, size_t err_len,
-                                    struct memcgrun_lengths *lengths) __asm__("memcgrun_schedule_into");
+/* The bits of flags, as memcgrun.js sets them. */
+enum { LABELS = 1, STRICT = 2, AS_LINUX = 4, EXPLAIN = 8, QUIET = 16, SUMMARY = 32 };
 
-uint8_t schedule_into(const uint8_t *script, size_t script_len, struct memcgrun_asked asked,
-                      uint8_t *out, size_t out_len, uint8_t *err, size_t err_len,
-                      struct memcgrun_lengths *lengths)
+static struct memcgrun_options options_of(uint32_t turns, uint32_t flags)
 {
-    uint32_t bits = (uint32_t)(asked.labels | asked.strict << 8 | asked.as_linux << 16);
-    return proved_schedule_into(script, script_len, bits, out, out_len, err, err_len, lengths);
+    struct memcgrun_options options = MEMCGRUN_OPTIONS_INIT;
+    options.turns = turns;
+    options.labels = flags & LABELS;
+    options.strict = flags & STRICT;
+    options.as_linux = flags & AS_LINUX;
+    options.explain = flags & EXPLAIN;
+    options.quiet = flags & QUIET;
+    options.summary = flags & SUMMARY;
+    return options;
 }
 
-int page_schedule(const uint8_t *script, size_t len, int labels, int strict, int as_linux, struct memcgrun_text texts[2])
+int page_schedule(const uint8_t *script, size_t len, uint32_t turns, uint32_t flags, struct memcgrun_text texts[2])
 {
-    struct memcgrun_asked asked = {.labels = labels != 0, .strict = strict != 0, .as_linux = as_linux != 0};
-    return memcgrun_schedule(script, len, asked, &texts[0], &texts[1]);
+    struct memcgrun_options options = options_of(turns, flags);
+    return (int)memcgrun_schedule(script, len, &options, &texts[0], &texts[1]);
 }
 
-int page_chart(const uint8_t *script, size_t len, int as_linux, struct memcgrun_text texts[2])
+int page_chart(const uint8_t *script, size_t len, uint32_t turns, uint32_t flags, struct memcgrun_text texts[2])
 {
-    return memcgrun_chart(script, len, false, as_linux != 0, &texts[0], &texts[1]);
+    struct memcgrun_options options = options_of(turns, flags);
+    return (int)memcgrun_chart(script, len, &options, false, &texts[0], &texts[1]);
 }

@@ -3,6 +3,10 @@
 
 const part = (id) => document.getElementById(id);
 
+// The examples and the version, which a file beside this one has.
+const examples = typeof EXAMPLES === 'undefined' ? [] : EXAMPLES;
+if (typeof VERSION !== 'undefined') part('version').textContent = VERSION;
+
 // A link carries the script behind its #.
 const linked = () => {
   try {
@@ -12,17 +16,68 @@ const linked = () => {
   }
 };
 
-// Shows the line that a fault names, as `line 7: ...`, or, of a script that was ended there, as `script:7: ...`.
-function showLine(fault) {
+// The line that a fault names, as `line 7: ...`, or, of a script that was ended there, as `script:7: ...`; or 0.
+function lineOf(fault) {
   const named = /^(?:line |script:)(\d+): /.exec(fault);
-  if (!named) return;
+  return named ? Number(named[1]) : 0;
+}
+
+// Shows a line of the script.
+function showLine(line) {
+  if (!line) return;
   const box = part('script');
   const lines = box.value.split('\n');
-  const line = Number(named[1]);
   const from = lines.slice(0, line - 1).reduce((sum, text) => sum + text.length + 1, 0);
   box.focus();
   box.setSelectionRange(from, from + (lines[line - 1] || '').length);
   box.scrollTop = Math.max(0, (box.scrollHeight / lines.length) * (line - 4));
+}
+
+// What is said of lines, by their numbers: what comes after `script:7: `.
+function saidOf(err) {
+  const said = new Map();
+  for (const line of err.split('\n')) {
+    const told = /^script:(\d+): (.*)$/.exec(line);
+    if (told) said.set(told[1], [...(said.get(told[1]) || []), told[2]]);
+  }
+  return said;
+}
+
+// Of what is said of an answer's line, why that line was refused or that task was killed. Its words and the answer itself are not in it.
+function reasonOf(said, [, number, words, answer]) {
+  const refusal = answer.split(' ').pop();
+  for (const text of said.get(number) || []) {
+    const rest = text.startsWith(`${words}: `) ? text.slice(words.length + 2) : text;
+    for (const start of [`${refusal}, `, `${answer}: `]) {
+      if (rest.startsWith(start)) return rest.slice(start.length);
+    }
+  }
+  return '';
+}
+
+// Shows the answers, those that refuse a line in red, and below an answer its reason where one is told. As a text they are the answers alone.
+function showAnswers(out, err) {
+  const said = saidOf(err);
+  const lines = out.split('\n');
+  const shown = [];
+  let plain = '';
+  lines.forEach((line, at) => {
+    const text = at < lines.length - 1 ? `${line}\n` : line;
+    const labelled = said.size ? /^(\d+) (.*): (.*)$/.exec(line) : null;
+    const reason = labelled ? reasonOf(said, labelled) : '';
+    const isRefused = /(?:^|: )(?:error|\d+) [A-Z][A-Za-z]+$/.test(line);
+    if (!reason && !isRefused) {
+      plain += text;
+      return;
+    }
+    const mark = document.createElement('span');
+    mark.classList.toggle('refused', isRefused);
+    mark.textContent = text;
+    if (reason) mark.dataset.reason = reason;
+    shown.push(plain, mark);
+    plain = '';
+  });
+  part('out').replaceChildren(...shown, plain);
 }
 
 // The picture is drawn by the module, and shown as an image, so that nothing in it could be run.
@@ -42,13 +97,16 @@ function run(machine) {
   const start = performance.now();
   try {
     const asLinux = part('as_linux').checked;
-    const { status, out, err } = machine.schedule(script, { labels: part('labels').checked, asLinux });
+    const [labels, explain, strict] = ['labels', 'explain', 'strict'].map((option) => part(option).checked);
+    const { status, out, err } = machine.schedule(script, { labels, explain, strict, asLinux });
     const took = performance.now() - start;
-    part('out').textContent = out;
-    part('err').textContent = err;
-    part('said').textContent = `${status === 0 ? 'run to its end' : 'not run to its end'}, ${took.toFixed(1)} ms`;
+    const line = lineOf(err);
+    showAnswers(out, err);
+    // Explanations of a run to its end are below their lines, if these have numbers.
+    part('err').textContent = status === 0 && labels ? '' : err;
+    part('said').textContent = `${status === 0 ? 'ran to the end' : line ? `stopped at line ${line}` : 'stopped'}, ${took.toFixed(1)} ms`;
     showChart(machine.chart(script, { asLinux }));
-    showLine(err);
+    if (status !== 0) showLine(line);
   } catch (fault) {
     part('out').textContent = '';
     part('err').textContent = `This script is more than the page can run: ${fault.message}`;
@@ -66,32 +124,45 @@ async function copyLink() {
   location.hash = encodeURIComponent(part('script').value);
   try {
     await navigator.clipboard.writeText(location.href);
-    part('said').textContent = 'the link is copied, and stands in the address line';
+    part('said').textContent = 'link copied';
   } catch {
-    part('said').textContent = 'the link stands in the address line';
+    part('said').textContent = 'the link is in the address line';
+  }
+}
+
+// Gets the module, or says what is wrong and what to do.
+async function moduleOf() {
+  if (location.protocol === 'file:') throw new Error('A browser loads the module only from a server. web/serve starts one.');
+  const answer = await fetch('memcgrun.wasm', { cache: 'no-cache' });
+  if (!answer.ok) throw new Error(`The module memcgrun.wasm is missing beside this page (${answer.status} ${answer.statusText}). web/page makes the whole folder.`);
+  const bytes = await answer.arrayBuffer();
+  try {
+    return await Memcgrun.of(bytes);
+  } catch (fault) {
+    throw new Error(`This browser can't run the module, which uses 64-bit memories of WebAssembly: ${fault.message}`);
   }
 }
 
 async function start() {
-  for (const { name, says } of EXAMPLES) part('example').add(new Option(`${name}: ${says}`, name));
-  const named = (name) => EXAMPLES.find((example) => example.name === name);
+  for (const { name, says } of examples) part('example').add(new Option(`${name}: ${says}`, name));
+  const named = (name) => examples.find((example) => example.name === name);
   const first = linked();
   if (first) choose(first, '');
-  else choose(named('pod').script, 'pod');
+  else if (named('pod')) choose(named('pod').script, 'pod');
   part('script').addEventListener('input', () => { part('example').value = ''; });
   part('link').addEventListener('click', copyLink);
 
   let machine;
   try {
-    machine = await Memcgrun.of(await (await fetch('out/memcgrun.wasm')).arrayBuffer());
+    machine = await moduleOf();
   } catch (fault) {
-    part('said').textContent = `This browser can't run it: ${fault.message}`;
+    part('said').textContent = 'not loaded';
+    part('err').textContent = fault.message;
     return;
   }
   part('run').disabled = false;
   part('run').addEventListener('click', () => run(machine));
-  part('labels').addEventListener('change', () => run(machine));
-  part('as_linux').addEventListener('change', () => run(machine));
+  for (const option of ['labels', 'explain', 'strict', 'as_linux']) part(option).addEventListener('change', () => run(machine));
   part('example').addEventListener('change', () => {
     const example = named(part('example').value);
     if (!example) return;

@@ -15,11 +15,20 @@ static const char script[] = "group /job\n"
 
 int main(void)
 {
+    struct memcgrun_options options = MEMCGRUN_OPTIONS_INIT;
     struct memcgrun_text out, err;
-    struct memcgrun_asked asked = {.labels = true};
-    int status = memcgrun_schedule((const uint8_t *)script, strlen(script), asked, &out, &err);
-    fwrite(out.bytes, 1, out.len, stdout);
-    fwrite(err.bytes, 1, err.len, stderr);
+    options.labels = true;
+    enum memcgrun_status status = memcgrun_schedule((const uint8_t *)script, strlen(script), &options, &out, &err);
+    switch (status) {
+    case MEMCGRUN_OK:
+        fwrite(out.bytes, 1, out.len, stdout);
+        break;
+    case MEMCGRUN_NO_MEMORY:
+        fputs("not enough memory\n", stderr);
+        break;
+    default:
+        fwrite(err.bytes, 1, err.len, stderr);
+    }
     memcgrun_text_free(&out);
     memcgrun_text_free(&err);
     return status;

@@ -1,5 +1,5 @@
-/* ask CALL FILE: one call of the library. CALL is schedule, labels, strict, chart, table or check, and ends with -as-linux if pages are
- * to be placed so. What it gives goes to standard output and standard error, and its status is the exit status.
+/* ask CALL FILE: one call of the library. CALL is schedule, chart, table or check, followed by options, as in schedule,--strict,--labels.
+ * What it gives goes to standard output and standard error, and its status is the exit status.
  *
  * ask threads FILE makes the call schedule on several threads at once, many times, and each has to give the same.
  *
@@ -33,20 +33,31 @@ static bool begins(const char *call, const char *with)
     return !strncmp(call, with, strlen(with));
 }
 
-static struct memcgrun_asked asked_of(const char *call)
+static bool has(const char *call, const char *option)
 {
-    return (struct memcgrun_asked){
-        .labels = begins(call, "labels"), .strict = begins(call, "strict"), .as_linux = strstr(call, "-as-linux")};
+    return strstr(call, option) != NULL;
+}
+
+static struct memcgrun_options options_of(const char *call)
+{
+    struct memcgrun_options options = MEMCGRUN_OPTIONS_INIT;
+    options.labels = has(call, ",--labels");
+    options.strict = has(call, ",--strict");
+    options.as_linux = has(call, ",--as-linux");
+    options.explain = has(call, ",--explain");
+    options.quiet = has(call, ",--quiet");
+    options.summary = has(call, ",--summary");
+    return options;
 }
 
 /* The call, with texts that end in a 0. */
 static int ask(const char *call, const uint8_t *script, size_t len, struct memcgrun_text *out, struct memcgrun_text *err)
 {
-    struct memcgrun_asked asked = asked_of(call);
+    struct memcgrun_options options = options_of(call);
     bool table = begins(call, "table");
-    int status = begins(call, "check") ? memcgrun_check(script, len, asked.as_linux, out, err)
-        : table || begins(call, "chart") ? memcgrun_chart(script, len, table, asked.as_linux, out, err)
-                                         : memcgrun_schedule(script, len, asked, out, err);
+    int status = begins(call, "check") ? memcgrun_check(script, len, &options, out, err)
+        : table || begins(call, "chart") ? memcgrun_chart(script, len, &options, table, out, err)
+                                         : memcgrun_schedule(script, len, &options, out, err);
     if (out->bytes && (out->bytes[out->len] || err->bytes[err->len]))
         exit(72);
     return status;
@@ -87,6 +98,7 @@ static void front(const char *call, const uint8_t *script, size_t len, size_t ro
 {
     enum { BEHIND = 8, MARK = 0xa5 };
     uint8_t *out = malloc(room + BEHIND), *err = malloc(room + BEHIND);
+    struct memcgrun_options options = options_of(call);
     struct memcgrun_lengths lengths;
     size_t out_len, err_len;
     int status;
@@ -94,7 +106,7 @@ static void front(const char *call, const uint8_t *script, size_t len, size_t ro
         exit(73);
     memset(out, MARK, room + BEHIND);
     memset(err, MARK, room + BEHIND);
-    status = memcgrun_schedule_into(script, len, asked_of(call), out, room, err, room, &lengths);
+    status = memcgrun_schedule_into(script, len, &options, out, room, err, room, &lengths);
     out_len = lengths.out < room ? lengths.out : room;
     err_len = lengths.err < room ? lengths.err : room;
     for (size_t i = out_len; i < room + BEHIND; i++)
@@ -151,7 +163,7 @@ static void *again(void *given)
     const struct turn *turn = given;
     for (int i = 0; i < TIMES; i++) {
         struct memcgrun_text out, err;
-        memcgrun_schedule(turn->script, turn->len, (struct memcgrun_asked){0}, &out, &err);
+        memcgrun_schedule(turn->script, turn->len, NULL, &out, &err);
         if (!out.bytes || out.len != turn->wanted.len || memcmp(out.bytes, turn->wanted.bytes, out.len))
             exit(77);
         memcgrun_text_free(&out);
@@ -166,7 +178,7 @@ static int on_threads(const uint8_t *script, size_t len)
     struct memcgrun_text err;
     struct turn turn = {.script = script, .len = len};
     pthread_t threads[THREADS];
-    int status = memcgrun_schedule(script, len, (struct memcgrun_asked){0}, &turn.wanted, &err);
+    int status = memcgrun_schedule(script, len, NULL, &turn.wanted, &err);
     for (int i = 0; i < THREADS; i++)
         if (pthread_create(&threads[i], NULL, again, &turn))
             exit(78);

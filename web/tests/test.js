@@ -6,8 +6,8 @@ const fail = (what, found) => { if (faults.length < 20) faults.push(`${what}: ${
 const times = {};
 
 function tryCases(machine, cases) {
-  for (const { name, strict, asLinux, script, status, out, err } of cases) {
-    const found = machine.schedule(script, { strict, asLinux });
+  for (const { name, asked, script, status, out, err } of cases) {
+    const found = machine.schedule(script, asked);
     if (found.status !== status || found.out !== out || found.err !== err) fail(name, found);
   }
 }
@@ -63,6 +63,28 @@ async function tryPage(examples) {
   const box = part('script');
   if (box.value.slice(box.selectionStart, box.selectionEnd) !== 'group /a b') fail('the faulty line is shown', box.selectionStart);
 
+  // A refused line is red, with its reason; the text of the answers is theirs alone.
+  part('labels').checked = true;
+  part('strict').checked = true;
+  part('script').value = 'group /a\ngroup /a/b\nrmdir /a\ncat /a memory.current\n';
+  part('strict').dispatchEvent(new Event('change'));
+  const refused = part('out').querySelector('.refused');
+  if (part('out').textContent !== '3 rmdir /a: error EBUSY\n') fail('answers up to the first refused line', part('out').textContent);
+  if (!refused || !(refused.dataset.reason || '').startsWith('/a has groups below it')) fail('the reason beside it', refused && refused.dataset.reason);
+  if (!part('said').textContent.startsWith('stopped at line 3, ')) fail('where it stopped', part('said').textContent);
+  part('strict').checked = false;
+  part('strict').dispatchEvent(new Event('change'));
+  if (part('out').textContent !== '3 rmdir /a: error EBUSY\n4 cat /a memory.current: 0\n') fail('answers after a refused line', part('out').textContent);
+
+  // With explanations a refused line has its reason, and a kill too.
+  part('explain').checked = true;
+  part('script').value = 'group /a\nset /a memory.max 4096\ngroup /a/b\nrmdir /a\ntask 1 /a/b\n1 write 0 0 1\n1 write 1 0 1\n';
+  part('explain').dispatchEvent(new Event('change'));
+  const told = [...part('out').querySelectorAll('[data-reason]')].map((line) => line.textContent.trimEnd());
+  if (told.join() !== '4 rmdir /a: error EBUSY,7 1 write 1 0 1: killed 1') fail('lines with reasons', told);
+  if (part('err').textContent) fail('reasons beside their lines alone', part('err').textContent);
+  part('explain').checked = false;
+
   // A link carries the script to another page.
   const script = '# ü#%&\ngroup /b\ntask 1 /b\n1 write 0 0 9\n1 read 0 0\n';
   part('script').value = script;
@@ -91,7 +113,7 @@ addEventListener('load', async () => {
   let cases = [];
   try {
     const machine = await Memcgrun.of(await (await fetch('../out/memcgrun.wasm')).arrayBuffer());
-    const given = await (await fetch('../out/cases.json')).json();
+    const given = await (await fetch('out/cases.json')).json();
     cases = given.cases;
     tryCases(machine, cases);
     await tryPage(given.examples);

@@ -7,9 +7,9 @@
 //!
 //! A line `-- on threads` among the script's says that a run on threads prints the same, each time
 //! of a thousand, and behind it the line of an audit that finds nothing wrong. A line `-- with ` among them names the options, as the
-//! command line does. A line `-- says ` has a line of standard error of a script that is run to its end, and `-- faults ` one of a
-//! script that is not; there may be several, in the order in which they come. There the script's file is called `case`. One that begins with
-//! `-- checked` says what a check prints behind the file's name.
+//! command line does. A line `-- as linux too` says that the same is so with `--as-linux`. A line `-- says ` has a line of standard
+//! error of a script that is run to its end, and `-- faults ` one of a script that is not; there may be several, in the order in which
+//! they come. There the script's file is called `case`. One that begins with `-- checked` says what a check prints behind the file's name.
 
 ghost use Rattle.std.specs.Prelude.{◌≡◌, ◌==◌, ◌&&◌, if◌then◌else◌};
 ghost use Rattle.std.specs.Str.{bytes_eq};
@@ -55,6 +55,8 @@ pub struct Case {
     checked: String,
     /// It is run on threads too.
     on_threads: bool,
+    /// It is run with `--as-linux` too.
+    as_linux_too: bool,
     /// Where the next line of the file belongs.
     next: Part,
 }
@@ -70,6 +72,7 @@ impl Case {
             options: Options::default(),
             checked: String::new(alloc),
             on_threads: false,
+            as_linux_too: false,
             next: Part::Script,
         })
     }
@@ -82,6 +85,10 @@ impl Case {
         }
         if line == "-- on threads" {
             self.on_threads = true;
+            return Ok(());
+        }
+        if line == "-- as linux too" {
+            self.as_linux_too = true;
             return Ok(());
         }
         if let Some(checked) = line.strip_prefix("-- checked") {
@@ -131,24 +138,48 @@ impl Case {
         file: &str,
         to: &mut W,
     ) -> io::Result<()> {
-        if self.run_in_turns(alloc, file, to)? && self.err.is_empty() {
-            self.run_audited(alloc, file, to)?;
+        self.run_with(rt, alloc, self.options, file, to)?;
+        if self.as_linux_too {
+            let mut options = self.options;
+            options.placement = Placement::Linux;
+            self.run_with(rt, alloc, options, file, to)?;
+        }
+        Ok(())
+    }
+
+    /// The same with these options.
+    fn run_with<R: Threads + Wait + Sync, W: Write>(
+        &self,
+        rt: &R,
+        alloc: Global,
+        options: Options,
+        file: &str,
+        to: &mut W,
+    ) -> io::Result<()> {
+        if self.run_in_turns(alloc, options, file, to)? && self.err.is_empty() {
+            self.run_audited(alloc, options, file, to)?;
         }
         if self.on_threads {
-            self.run_often_on_threads(rt, alloc, file, to)?;
+            self.run_often_on_threads(rt, alloc, options, file, to)?;
         }
         if !self.checked.is_empty() {
-            self.check(alloc, file, to)?;
+            self.check(alloc, options, file, to)?;
         }
         Ok(())
     }
 
     /// Whether it came out as the file says.
-    fn run_in_turns<W: Write>(&self, alloc: Global, file: &str, to: &mut W) -> io::Result<bool> {
+    fn run_in_turns<W: Write>(
+        &self,
+        alloc: Global,
+        options: Options,
+        file: &str,
+        to: &mut W,
+    ) -> io::Result<bool> {
         let mut out = Vec::new(alloc);
         let mut err = Vec::new(alloc);
         let script = self.script.as_bytes();
-        let ran = run_script(alloc, self.options, FILE, script, &mut out, &mut err);
+        let ran = run_script(alloc, options, FILE, script, &mut out, &mut err);
         let status = status_of(ran, &mut err);
         if self.is_met(status, &out, &err) {
             return Ok(true);
@@ -160,8 +191,14 @@ impl Case {
     }
 
     /// The same with an audit, which finds nothing wrong.
-    fn run_audited<W: Write>(&self, alloc: Global, file: &str, to: &mut W) -> io::Result<()> {
-        let mut options = self.options;
+    fn run_audited<W: Write>(
+        &self,
+        alloc: Global,
+        options: Options,
+        file: &str,
+        to: &mut W,
+    ) -> io::Result<()> {
+        let mut options = options;
         options.audit = true;
         let mut out = Vec::new(alloc);
         let mut err = Vec::new(alloc);
@@ -185,11 +222,12 @@ impl Case {
         &self,
         rt: &R,
         alloc: Global,
+        options: Options,
         file: &str,
         to: &mut W,
     ) -> io::Result<()> {
         for _run in 0..RUNS_ON_THREADS {
-            if !self.run_on_threads(rt, alloc, file, to)? {
+            if !self.run_on_threads(rt, alloc, options, file, to)? {
                 break;
             }
         }
@@ -201,6 +239,7 @@ impl Case {
         &self,
         rt: &R,
         alloc: Global,
+        options: Options,
         file: &str,
         to: &mut W,
     ) -> io::Result<bool> {
@@ -208,7 +247,7 @@ impl Case {
         let mut err = Vec::new(alloc);
         let script = self.script.as_bytes();
         let options = Options {
-            placement: self.options.placement,
+            placement: options.placement,
             ..Options::default()
         };
         let ran = run_script_on_threads(rt, alloc, options, FILE, script, &mut out);
@@ -233,12 +272,24 @@ impl Case {
     }
 
     /// Checks the script.
-    fn check<W: Write>(&self, alloc: Global, file: &str, to: &mut W) -> io::Result<()> {
+    fn check<W: Write>(
+        &self,
+        alloc: Global,
+        options: Options,
+        file: &str,
+        to: &mut W,
+    ) -> io::Result<()> {
         let mut out = Vec::new(alloc);
         let mut err = Vec::new(alloc);
         let mut script = self.script.as_bytes();
-        let placement = self.options.placement;
-        let status = read_and_check(alloc, placement, FILE, &mut script, &mut out, &mut err);
+        let status = read_and_check(
+            alloc,
+            options.placement,
+            FILE,
+            &mut script,
+            &mut out,
+            &mut err,
+        );
         out.extend_from_slice(&err)?;
         if self.is_checked(status, &out) {
             return Ok(());

@@ -10,3 +10,4 @@ pub mod TurnLemmas
 pub mod ProtectionLemmas
 pub mod LowLemmas
 mod KillLemmas
+pub mod SettingLemmas

@@ -11,6 +11,8 @@ use Rattle.machine.specs.declared.id.TaskId.{TaskId}
 use Rattle.machine.specs.declared.event.Cause.{Cause}
 use Rattle.machine.specs.declared.event.Op.{Op}
 use Rattle.machine.specs.declared.event.Place.{Place}
+use Rattle.machine.specs.declared.event.Setting.{Setting}
+use Rattle.machine.specs.declared.event.Setting.TheVariants as setting
 use Rattle.machine.specs.declared.event.Query.TheVariants as query
 use Rattle.machine.specs.declared.event.Event.{Event}
 use Rattle.machine.specs.declared.event.Event.TheVariants as event
@@ -22,6 +24,7 @@ use Rattle.machine.specs.declared.record.Key.TheVariants as key
 use Rattle.machine.specs.declared.record.Life.TheVariants.{Killed}
 use Rattle.machine.specs.declared.record.Guard.{Guard}
 use Rattle.machine.specs.declared.record.Limits.{Limits}
+use Rattle.machine.specs.declared.record.OomGroup.TheVariants.{Single}
 use Rattle.machine.specs.declared.reply.Reply.{Reply}
 use Rattle.machine.specs.declared.reply.Reply.TheVariants as reply
 use Rattle.machine.specs.declared.reply.Shown.TheVariants as shown
@@ -30,7 +33,7 @@ use Rattle.machine.specs.declared.command.Step.{Step as Line}
 use Rattle.machine.specs.declared.command.Reply.{Reply as Told_by}
 use Rattle.machine.specs.Slots.{there_and, count_there}
 use Rattle.machine.specs.Amounts.{exceeds}
-use Rattle.machine.specs.Counts.{limits_at, count_of_key, with_event, local, total, Counted, how_often}
+use Rattle.machine.specs.Counts.{no_limits, limits_at, guard_of, count_of_key, with_event, local, total, Counted, how_often}
 use Rattle.machine.specs.Tree.{Node, node_at, is_child, is_live, children, under}
 use Rattle.machine.specs.Pages.{OfFile, Residence, Away, Page, page_at, is_anon, is_held, frame_at, block_at, ticket_at, is_in_transfer, is_charged, is_number, in_transfer, used_frames, used_swap, IsFiled}
 use Rattle.machine.specs.Tasks.{task_at, task_of, lives, group_of_task, mapped_at, size_of}
@@ -40,7 +43,8 @@ use Rattle.machine.specs.Generations.{row_of, listed, gens_at, AreDistinct}
 use Rattle.machine.specs.Aging.{is_marked, has_mark}
 use Rattle.machine.specs.Eviction.{old_pages}
 use Rattle.machine.specs.Lists.{HeldLists, Youngest, served, PicksOf, ListsHeld, AreGenerations, generation_for, GoesOn, shown_at, is_in_bits, MergesMarks, with_group, RemovesLists}
-use Rattle.machine.specs.Victim.{is_live_under, is_candidate, is_flagged}
+use Rattle.machine.specs.Victim.{flag_at, is_live_under, is_candidate, is_flagged}
+use Rattle.machine.specs.Refusals.{refusal}
 use Rattle.machine.specs.Step.{Step}
 use Rattle.machine.specs.Call.{Past, Caller, Called, AreAlike}
 use Rattle.machine.specs.Legal.{Legal}
@@ -585,6 +589,34 @@ abbrev pub RemovedGroupsHaveNoPages : Type 0
 RemovedGroupsHaveNoPages =
     (opening : Opening) (history : List Entry) (s : State) → Legal opening history s → (g : ℕ) → is_live s.tree g ≡ false
     → ((p : ℕ) (page : Page) → page_at s.pages p ≡ Some page → page.group ≢ g) × (usage s g ≡ 0)
+
+-- in whatever state a legal history ends, the root does not have the flag. (Excludes a write to the root's memory.oom.group that is carried out, and a flag that goes from a removed group to its parent.)
+abbrev pub RootIsNeverFlagged : Type 0
+RootIsNeverFlagged = (opening : Opening) (history : List Entry) (s : State) → Legal opening history s → is_flagged s.flags 0 ≡ false
+
+-- the group has this max, this min or low, or this flag
+abbrev pub HasSetting : State → ℕ → Setting → Type 0
+HasSetting s g (setting.Max amount) = (limits_at s.limits g).max ≡ amount
+HasSetting s g (setting.Guard guard amount) = guard_of guard (limits_at s.limits g) ≡ amount
+HasSetting s g (setting.OomGroup flag) = flag_at s.flags g ≡ flag
+
+-- the event sets just this at the group
+abbrev pub SetsAt : Event → ℕ → Setting → Type 0
+SetsAt (event.Set group set) g it = (group.0 ≡ g) × (set ≡ it)
+SetsAt what g it = ⊥
+
+-- the group has no max, no min, no low, and not the flag
+abbrev pub HasDefaults : State → ℕ → Type 0
+HasDefaults s g = (limits_at s.limits g ≡ no_limits) × (flag_at s.flags g ≡ Single)
+
+-- each setting that a group has after a step it had before, or the step set just this at the group. A removed group's number keeps its own. In whatever state a legal history ends, a group that comes to be
+-- begins with the defaults, and a setting that nothing refuses is done. (Excludes a setting that changes with a kill, a move, a removal, another group's setting or another setting of the group, and a new group that has what an earlier one of its path had.)
+abbrev pub OnlySetsChangeSettings : Type 0
+OnlySetsChangeSettings =
+    (before after : State) (what : Event) (answer : Reply) → Step before what answer after
+    → ((g : ℕ) (it : Setting) → HasSetting after g it → HasSetting before g it ⊎ SetsAt what g it)
+    × ((opening : Opening) (history : List Entry) (g : ℕ) → Legal opening history before → is_live before.tree g ≡ false → is_live after.tree g ≡ true → HasDefaults after g)
+    × ((opening : Opening) (history : List Entry) (g : ℕ) (it : Setting) → Legal opening history before → refusal before what ≡ None → SetsAt what g it → HasSetting after g it)
 
 -- what a call answers is settled by the past, the caller and the event: two answers, neither of them for want of memory, say the same, but for the numbers of new
 -- tickets and for the byte that a read gives, which the history says. (Excludes definitions that leave a reply to whoever carries them out.)

@@ -10,7 +10,7 @@ use Rattle.live.specs.declared.history.Row.{Row}
 use Rattle.live.specs.declared.history.View.{View}
 use Rattle.live.specs.Told.{told_to}
 use Rattle.live.specs.Rules.{row, of_rows, joined, AreRows, times_in, weight_in, weight_told, IsAll}
-use Rattle.live.specs.OneRun.{rows_of}
+use Rattle.live.specs.Shared.{rows_of}
 use Rattle.std.proofs.lemmas.List.{reverse-reverse, length-reverse}
 use Rattle.std.proofs.lemmas.List.Elements.{All-weaker}
 use Rattle.atomic_table.specs.Seated.{TableId}
@@ -19,7 +19,8 @@ use Rattle.machine.specs.State.{Opening}
 use Rattle.machine.specs.Call.{Past}
 use Rattle.live.specs.Matching.{told_of, answers_of, AreApart, Matches}
 use Rattle.live.specs.Logs.{LogOf}
-use Rattle.live.specs.OneRun.{Act, Leads, told_in, IsOneRun, IsShared, WereGiven}
+use Rattle.live.specs.OneRun.{Act, Leads, told_in, IsOneRun, WereGiven}
+use Rattle.live.specs.Shared.{IsShared}
 use Rattle.live.proofs.ActLemmas.{entry_weight, told-trace, weight-trace}
 use Rattle.live.proofs.GivenLemmas.{passes-given}
 use Rattle.live.proofs.ToldLemmas.{times-own, times-less}

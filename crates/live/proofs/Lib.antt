@@ -9,3 +9,5 @@ mod ActLemmas
 mod SharedLemmas
 mod EndLemmas
 mod GivenLemmas
+mod HandLemmas
+mod StageLemmas

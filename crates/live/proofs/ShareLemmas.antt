@@ -1,6 +1,7 @@
 -- What a call adds to a pass's share.
-use Rattle.std.proofs.Common.{◌≡◌, ℕ, ◌+◌, Bool, true, false, List, [], ◌∷◌, ◌++◌, refl, sym, ap, ◌∙◌, arith, subst, Option}
+use Rattle.std.proofs.Common.{◌≡◌, ℕ, ◌+◌, ◌≤◌, Bool, true, false, List, [], ◌∷◌, ◌++◌, refl, sym, ap, ◌∙◌, arith, subst, Option}
 use Rattle.std.specs.Prelude.{count_by}
+use Rattle.std.proofs.lemmas.Bool.Decides.{nat_tests}
 use Rattle.std.proofs.lemmas.List.Sums.{sum_by-append, sum_by-cons}
 use Rattle.machine.specs.declared.event.Event.{Event as Plain_event}
 use Rattle.machine.specs.declared.event.Event.TheVariants as plain
@@ -24,7 +25,7 @@ use Rattle.machine.specs.declared.command.Actor.{Actor}
 use Rattle.machine.specs.declared.command.Command.{Command}
 use Rattle.live.specs.Works.{finds_of}
 use Rattle.live.specs.Runs.{Looked}
-use Rattle.live.specs.Matching.{asks_end, begins, ends, begun, ended}
+use Rattle.live.specs.Matching.{asks_end, begins, ends, begun, ended, has_share}
 use Rattle.live.specs.Shares.{is_strange, strange, KeepsShare, one_if, Carries}
 
 -- ---- lists
@@ -151,3 +152,10 @@ carries-same a b i same = subst (λ (l : List Kept). Carries a i l i) (sym same)
 
 pub keeps-share : (old new : List Kept) → Carries old 0 new 0 → KeepsShare old new
 keeps-share old new h same = omega (arith, h.balance, same)
+
+-- no end was strange, so with no ticket out before there is none out now
+pub rests : (old new : List Kept) → strange old ≡ 0 → strange new ≡ 0 → Carries old 0 new 0 → has_share old ≡ false → has_share new ≡ false
+rests old new was is h none =
+    let less : begun old ≤ ended old = grind (arith, nat_tests, none) in
+    let more : begun new ≤ ended new = omega (arith, h.balance, was, is, less) in
+    grind (arith, nat_tests, more)

@@ -11,20 +11,24 @@ use Rattle.machine.specs.declared.reply.Reply.TheVariants as said
 use Rattle.machine.specs.declared.refusal.Refusal.TheVariants.{Stranger, TraceFull}
 use Rattle.machine.specs.Tree.{find_group}
 use Rattle.machine.specs.State.{Opening, State}
-use Rattle.machine.specs.Call.{Past, Caller, leaves_entry, is_trace_full, Refuses, Answered, Called}
+use Rattle.machine.specs.Call.{Past, Caller, first_past, leaves_entry, is_trace_full, Refuses, Answered, Called}
+use Rattle.machine.specs.Legal.{Legal}
 use Rattle.legal.proofs.OpeningLemmas.{called_opening}
 use Rattle.book.specs.declared.kept.Kept.{Kept}
 use Rattle.book.specs.declared.event.Reply.{Reply as Answer}
 use Rattle.book.specs.declared.event.Reply.TheVariants as answer
 use Rattle.book.specs.Events.{reply_of}
-use Rattle.book.specs.Replies.{IsAlwaysOk}
+use Rattle.book.specs.Replies.{IsAlwaysOk, HandsOut}
 use Rattle.book.specs.Passes.{PassOf, call_of, find_of, is_current, CalledWith}
 use Rattle.book.proofs.PassLemmas.{may_ask-current}
 use Rattle.live.specs.declared.history.Told.{Told}
 use Rattle.live.specs.Told.{told, told_to, telling}
 use Rattle.live.specs.Logs.{LogOf}
-use Rattle.live.specs.OneRun.{Act, Tells, Merges, GivesOut, Leads, told_in, IsShared, MergeOn, Gathers, found_in}
+use Rattle.live.specs.Hands.{HandsAre}
+use Rattle.live.specs.OneRun.{Act, Tells, Merges, GivesOut, Leads, told_in}
+use Rattle.live.specs.Shared.{IsShared, MergeOn, Gathers, found_in}
 use Rattle.live.proofs.ActLemmas.{current-trace}
+use Rattle.live.proofs.HandLemmas.{hands-none, hands-same, hands-finds, hands-call}
 
 -- ---- marks that are merged
 
@@ -82,6 +86,7 @@ module _ (table : TableId) (opening : Opening) (past : Past) (log : LogOf) (shar
     acts = merging h.marks shared.acts;
     leads = merging-leads opening shared.acts past h.marks new shared.leads h.merges;
     told_is = merging-told h.marks shared.acts ∙ shared.told_is;
+    hands = hands-same past new log.log (ap (λ (p : Past). p.state) h.same) (ap (λ (p : Past). p.history) h.same) shared.hands;
   }
 
   -- ---- a call
@@ -96,15 +101,17 @@ module _ (table : TableId) (opening : Opening) (past : Past) (log : LogOf) (shar
     pub opened-so : (what : Event) (reply : Reply) (new : Past) → CalledWith past pass what reply new → new.state.opening ≡ past.state.opening
     opened-so what reply new h = called_opening past new pass.caller what reply (called-so what reply new h)
 
-    pub shared-call : (what : Event) (reply : Reply) (new : Past) (next : LogOf) → leaves_entry what ≡ true → CalledWith past pass what reply new → new.passes ≡ past.passes
-        → next ≡ record log { log = told pass.caller.worker (call_of what reply) ∷ log.log } → IsShared table opening new next
-    shared-call what reply new next leaves h passes is = record {
+    pub shared-call : (what : Event) (answered : Answer) (new : Past) (next : LogOf) → leaves_entry what ≡ true → CalledWith past pass what (reply_of answered) new → new.passes ≡ past.passes
+        → next ≡ record log { log = told pass.caller.worker (call_of what (reply_of answered)) ∷ log.log }
+        → Legal opening past.history past.state → HandsOut new pass.caller.worker answered → IsShared table opening new next
+    shared-call what answered new next leaves h passes is legal gives = let reply = reply_of answered in record {
       of = ap (λ (l : LogOf). l.table) is ∙ shared.of;
       opened = opened-so what reply new h ∙ shared.opened;
       given = ap (λ (l : LogOf). l.given) is ∙ (shared.given ∙ sym passes);
       acts = Tells pass.caller.worker (call_of what reply) ∷ shared.acts;
       leads = (past, shared.leads, (what, refl, leaves, called-so what reply new h));
       told_is = ap (λ (l : List Told). told pass.caller.worker (call_of what reply) ∷ l) shared.told_is ∙ sym (ap (λ (l : LogOf). l.log) is);
+      hands = subst (λ (l : LogOf). HandsAre new l.log) (sym is) (hands-call opening past new pass.caller what answered log.log legal leaves (called-so what reply new h) gives shared.hands);
     }
 
   -- ---- paths that are looked up
@@ -129,6 +136,7 @@ module _ (table : TableId) (opening : Opening) (past : Past) (log : LogOf) (shar
     acts = acting worker (found_in past.state.tree paths) shared.acts;
     leads = acting-leads worker paths shared.acts shared.leads;
     told_is = acting-told worker (found_in past.state.tree paths) shared.acts ∙ (ap (telling worker (found_in past.state.tree paths)) shared.told_is ∙ sym (ap (λ (l : LogOf). l.log) is));
+    hands = subst (λ (l : LogOf). HandsAre past l.log) (sym is) (hands-finds past worker past.state.tree paths log.log shared.hands);
   }
 
   -- a command was judged, or there was no memory for it
@@ -146,7 +154,21 @@ module _ (table : TableId) (opening : Opening) (past : Past) (log : LogOf) (shar
     acts = GivesOut ∷ shared.acts;
     leads = (past, shared.leads, is);
     told_is = shared.told_is ∙ sym (ap (λ (l : LogOf). l.log) next-is);
+    hands = subst (λ (l : LogOf). HandsAre new l.log) (sym next-is) (hands-same past new log.log (ap (λ (p : Past). p.state) is) (ap (λ (p : Past). p.history) is) shared.hands);
   }
+
+-- ---- the beginning
+
+pub shared-first : (table : TableId) (opening : Opening) (past : Past) (log : LogOf) → past ≡ first_past opening → log.table ≡ table → log.given ≡ 0 → log.log ≡ [] → IsShared table opening past log
+shared-first table opening past log fresh of none empty = record {
+  of = of;
+  opened = ap (λ (p : Past). p.state.opening) fresh;
+  given = none ∙ sym (ap (λ (p : Past). p.passes) fresh);
+  acts = [];
+  leads = fresh;
+  told_is = sym empty;
+  hands = subst (λ (l : List Told). HandsAre past l) (sym empty) (hands-none past);
+}
 
 -- ---- what a pass keeps of paths
 

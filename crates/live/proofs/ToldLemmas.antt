@@ -11,10 +11,10 @@ use Rattle.live.specs.Rules.{AreRows, HavePasses, times_in, weight_in, weight_to
 
 -- ---- one thing more
 
-told-own : (worker : ℕ) (what : Kept) (log : List Told) → told_to worker (told worker what ∷ log) ≡ told_to worker log ++ what ∷ []
+pub told-own : (worker : ℕ) (what : Kept) (log : List Told) → told_to worker (told worker what ∷ log) ≡ told_to worker log ++ what ∷ []
 told-own worker what log = ap (λ (b : Bool). told_to worker log ++ cond b (what ∷ []) []) (eq-eqb worker worker refl)
 
-told-other : (worker other : ℕ) (what : Kept) (log : List Told) → worker ≢ other → told_to other (told worker what ∷ log) ≡ told_to other log
+pub told-other : (worker other : ℕ) (what : Kept) (log : List Told) → worker ≢ other → told_to other (told worker what ∷ log) ≡ told_to other log
 told-other worker other what log ne = ap (λ (b : Bool). told_to other log ++ cond b (what ∷ []) []) (ne_eqb worker other ne) ∙ append-nil (told_to other log)
 
 -- ---- more things

@@ -1,5 +1,5 @@
 -- Workers that work at the same time.
-use Rattle.std.specs.Prelude.{◌≡◌, ◌<◌, ℕ, List, [], ◌∷◌, Vec, length, slice_index_or, Result, Ok, Err, IfOk, IfErr}
+use Rattle.std.specs.Prelude.{◌≡◌, ◌<◌, ℕ, false, List, [], ◌∷◌, Vec, length, slice_index_or, Result, Ok, Err, IfOk, IfErr}
 use denote.Ref.{Bor}
 use Rattle.std.specs.declared.alloc.Global.{Global}
 use Rattle.machine.specs.declared.config.Watermarks.{Watermarks}
@@ -9,6 +9,7 @@ use Rattle.machine.specs.declared.command.Reply.{Reply as Told_by}
 use Rattle.machine.specs.declared.refusal.Refusal.{Refusal}
 use Rattle.machine.specs.declared.refusal.Refusal.TheVariants.{NoMemory}
 use Rattle.book.specs.Passes.{PassOf}
+use Rattle.live.specs.Matching.{has_share}
 use Rattle.live.specs.Works.{Worked}
 
 -- a worker: whose commands it does, and with which pass
@@ -27,6 +28,8 @@ pub record HasWorked (marks : Watermarks) (old new : WorkerOf) : Type 0 where
   pub caller : new.pass.caller ≡ old.pass.caller
   pub answered : IfOk new.answers (λ answers. Worked marks old.actor old.commands old.pass.kept new.pass.kept answers)
   pub short : IfErr new.answers (λ cause. (cause ≡ NoMemory) × (new.pass.kept ≡ old.pass.kept))
+  -- with no ticket out before, it has none out now. (Excludes a worker that keeps a ticket.)
+  pub rest : has_share old.pass.kept ≡ false → has_share new.pass.kept ≡ false
 
 -- the worker answered a command so, before what it is to do, and what it is to do stays
 pub record HasAnswered (marks : Watermarks) (command : Command) (old new : WorkerOf) (said : List Told_by) : Type 0 where
@@ -35,6 +38,7 @@ pub record HasAnswered (marks : Watermarks) (command : Command) (old new : Worke
   pub answers : new.answers ≡ old.answers
   pub caller : new.pass.caller ≡ old.pass.caller
   pub worked : Worked marks old.actor (command ∷ []) old.pass.kept new.pass.kept said
+  pub rest : has_share old.pass.kept ≡ false → has_share new.pass.kept ≡ false
 
 -- each of them did. (Excludes a worker that is left out.)
 abbrev pub HaveWorked : Watermarks → List WorkerOf → List WorkerOf → Type 0

@@ -7,4 +7,6 @@ pub mod Matching
 pub mod Told
 pub mod Rules
 pub mod Logs
+pub mod Hands
 pub mod OneRun
+pub mod Shared

@@ -1,12 +1,11 @@
 -- One run of the machine for all workers, and what each of them was told in it.
-use Rattle.std.specs.Prelude.{◌≡◌, ℕ, ◌+◌, ◌<◌, true, List, [], ◌∷◌, ◌++◌, length, reverse, map, take, slice_index_or, All}
+use Rattle.std.specs.Prelude.{◌≡◌, ℕ, ◌+◌, ◌<◌, true, List, [], ◌∷◌, ◌++◌, length, reverse, take, slice_index_or, All}
 use Rattle.std.specs.List.{sum_by}
-use Rattle.atomic_table.specs.Seated.{TableId}
 use Rattle.machine.specs.declared.event.Event.{Event}
 use Rattle.machine.specs.declared.event.Event.TheVariants as event
 use Rattle.machine.specs.declared.reply.Reply.TheVariants as reply
 use Rattle.machine.specs.declared.entry.Entry.{Entry}
-use Rattle.machine.specs.Tree.{Node, find_group}
+use Rattle.machine.specs.Tree.{find_group}
 use Rattle.machine.specs.State.{Opening}
 use Rattle.machine.specs.History.{entries_by}
 use Rattle.machine.specs.Call.{Past, Caller, first_past, leaves_entry, Called}
@@ -14,12 +13,8 @@ use Rattle.book.specs.declared.kept.Kept.{Kept}
 use Rattle.book.specs.declared.kept.Kept.TheVariants.{Call, Find}
 use Rattle.book.specs.Passes.{PassOf, asked_of, find_of, count_of}
 use Rattle.live.specs.declared.history.Told.{Told}
-use Rattle.live.specs.declared.history.Row.{Row}
 use Rattle.live.specs.Told.{told, told_to}
-use Rattle.live.specs.Rules.{row}
-use Rattle.live.specs.Logs.{LogOf}
 use Rattle.live.specs.Matching.{AreApart}
-use Rattle.live.specs.Works.{finds_of}
 
 -- ---- one run
 
@@ -88,31 +83,3 @@ WereGiven opening history worker kept = (k : ℕ) (other : Kept) → k < length 
 -- how many passes were given out
 pub record RollOf : Type 0 where
   pub given : ℕ
-
--- ---- what lies under the lock. No public clause cites what stands below
-
-pub record IsShared (table : TableId) (opening : Opening) (past : Past) (log : LogOf) : Type 0 where
-  pub of : log.table ≡ table
-  pub opened : past.state.opening ≡ opening
-  pub given : log.given ≡ past.passes
-  pub acts : List Act
-  pub leads : Leads opening acts past
-  pub told_is : told_in acts ≡ log.log
-
--- marks are merged, any number of times, the newest first
-abbrev pub MergeOn : Past → List (ℕ × ℕ) → Past → Type 0
-MergeOn old [] new = new ≡ old
-MergeOn old (mark ∷ marks) new = (before : Past) × MergeOn old marks before × Merged before mark.0 mark.1 new
-
-pub record Gathers (old new : Past) : Type 0 where
-  pub marks : List (ℕ × ℕ)
-  pub merges : MergeOn old marks new
-  pub same : new ≡ record old { order = new.order }
-
--- what is found for these paths
-abbrev pub found_in : List Node → List (List ℕ) → List Kept
-found_in tree paths = finds_of paths (map (find_group tree) paths)
-
--- what passes have, by worker
-abbrev pub rows_of : List PassOf → List Row
-rows_of passes = map (λ (pass : PassOf). row pass.caller.worker pass.kept) passes

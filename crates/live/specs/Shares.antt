@@ -1,5 +1,5 @@
 -- A pass's share, how many more transfers it began than it ended, from one turn to the next.
-use Rattle.std.specs.Prelude.{◌≡◌, ℕ, ◌+◌, Bool, true, false, if◌then◌else◌, List, count_by}
+use Rattle.std.specs.Prelude.{◌≡◌, ℕ, ◌+◌, Bool, false, if◌then◌else◌, List, count_by}
 use Rattle.machine.specs.declared.reply.Reply.TheVariants as reply
 use Rattle.machine.specs.declared.refusal.Refusal.TheVariants.{Stranger}
 use Rattle.book.specs.declared.kept.Kept.{Kept}

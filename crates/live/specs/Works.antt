@@ -1,6 +1,6 @@
 -- Runs of commands by a worker: a row of turns like that of a schedule, but without the book and the disk, which others change meanwhile. A call of the book is one
 -- kept answer; what the device answers is free; busy is no answer, and the state that met it is tried again; there is no limit of turns.
-use Rattle.std.specs.Prelude.{◌≡◌, ◌⊎◌, ℕ, List, [], ◌∷◌, ◌++◌, length, Result, Ok, Err, Option, Bool, true, false}
+use Rattle.std.specs.Prelude.{◌≡◌, ◌⊎◌, ℕ, List, [], ◌∷◌, ◌++◌, length, Result, Ok, Err, Option, false}
 use Rattle.machine.specs.declared.config.Watermarks.{Watermarks}
 use Rattle.machine.specs.declared.refusal.Refusal.TheVariants.{NoMemory}
 use Rattle.machine.specs.declared.command.Actor.{Actor}

@@ -1,7 +1,8 @@
 //! Workers that work at the same time, each in a thread of its own.
 
-ghost use Rattle.std.specs.Prelude.{◌≡◌, ℕ, ◌<◌, [], Ok, IfOk, IfErr, length, slice_index_or};
+ghost use Rattle.std.specs.Prelude.{◌≡◌, ℕ, ◌<◌, [], false, Ok, IfOk, IfErr, length, slice_index_or};
 ghost use Rattle.live.specs.Works.{Repeated};
+ghost use Rattle.live.specs.Matching.{has_share};
 ghost use Rattle.live.specs.Crews.{HasAnswered, HasWorked, HaveWorked, answers_in};
 
 use crate::live::Live;
@@ -129,9 +130,11 @@ pub fn work_together<L: Opened + Send + Sync, D: SharedDevice + Sync, R: Threads
     ensures workers { HaveWorked L.opening.watermarks workers.items result.0.items }
     ensures count { length result.0.items ≡ length workers.items }
     ensures daemon { Repeated L.opening.watermarks Actor.Daemon Command.Daemon daemon.kept result.1.kept }
+    ensures rest { has_share daemon.kept ≡ false → has_share result.1.kept ≡ false }
 {
     let balance = move || -> Pass<L>
-        ensures { Repeated L.opening.watermarks Actor.Daemon Command.Daemon daemon.kept result.kept }
+        ensures works { Repeated L.opening.watermarks Actor.Daemon Command.Daemon daemon.kept result.kept }
+        ensures rest { has_share daemon.kept ≡ false → has_share result.kept ≡ false }
     {
         let mut daemon = daemon;
         live.daemon(rt, &mut daemon);

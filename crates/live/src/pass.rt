@@ -10,7 +10,9 @@ ghost use Rattle.turns.specs.Turns.{paths_of};
 ghost use Rattle.live.specs.Runs.{Looked};
 ghost use Rattle.live.specs.Told.{told, told_to, telling};
 ghost use Rattle.live.specs.Rules.{of_worker};
-ghost use Rattle.live.specs.OneRun.{Gathers, found_in};
+ghost use Rattle.live.specs.Shared.{Gathers, IsShared, found_in};
+ghost use Rattle.live.specs.Hands.{HasEvent};
+ghost use Rattle.live.specs.Shares.{strange};
 
 use crate::hand::Hand;
 use crate::history::{Front, Log};
@@ -43,12 +45,13 @@ impl<L: Opened> Model for Pass<L> {
     ghost use Rattle.std.specs.Prelude.{◌≡◌, []};
     ghost use Rattle.book.specs.Passes.{PassOf};
     ghost use Rattle.live.specs.Rules.{of_worker};
+    ghost use Rattle.live.specs.Shares.{strange};
 
     ghost Value = { PassOf };
 
     ghost view = { λ p. p.pass };
 
-    ghost invariant = { λ p. (p.front.table_id ≡ L.table) × (p.front.me ≡ (of_worker p.pass.caller.worker p.pass.kept, [])) };
+    ghost invariant = { λ p. (p.front.table_id ≡ L.table) × (p.front.me ≡ (of_worker p.pass.caller.worker p.pass.kept, [])) × (strange p.pass.kept ≡ 0) };
 }
 
 impl<L: Opened> Pass<L> {
@@ -67,9 +70,11 @@ impl<L: Opened> Pass<L> {
         }
     }
 
-    /// What was asked with it, the oldest first.
+    /// What was asked with it, the oldest first. A ticket in hand is its worker's own, so the end of no transfer was
+    /// answered `Stranger`.
     pub fn kept(&self) -> &[Kept]
-        ensures { result.now ≡ self.now.kept }
+        ensures kept { result.now ≡ self.now.kept }
+        ensures known { strange self.now.kept ≡ 0 }
     {
         self.pass.kept()
     }
@@ -86,7 +91,8 @@ impl<L: Opened> Pass<L> {
 
     /// It has this seat of the marks from now on, or none.
     pub(crate) fn sit(&mut self, hand: Option<Hand>)
-        ensures { self.new ≡ self.old }
+        ensures same { self.new ≡ self.old }
+        ensures known { strange self.new.kept ≡ 0 }
     {
         self.hand = hand;
     }
@@ -165,6 +171,8 @@ impl<L: Opened> Pass<L> {
         requires room { 0 < self.old.room }
         requires leaves { leaves_entry (event_of event) ≡ true }
         requires of_these { log.old.table ≡ L.table }
+        requires shared { IsShared L.table L.opening book.old log.old }
+        requires hand { HasEvent self.old.kept event }
         ensures called { CalledWith book.old self.old (event_of event) (reply_of result) book.new }
         ensures log { log.new ≡ record log.old { log = told self.old.caller.worker (call_of (event_of event) (reply_of result)) ∷ log.old.log } }
         ensures known { self.old.kept ≡ told_to self.old.caller.worker log.old.log }

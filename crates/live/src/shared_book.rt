@@ -13,7 +13,9 @@ ghost use Rattle.live.specs.Matching.{Matches};
 ghost use Rattle.live.specs.Runs.{Looked};
 ghost use Rattle.live.specs.Reports.{IsLegal};
 ghost use Rattle.live.specs.Rules.{IsAll};
-ghost use Rattle.live.specs.OneRun.{IsOneRun, WereGiven, rows_of};
+ghost use Rattle.live.specs.OneRun.{IsOneRun, WereGiven};
+ghost use Rattle.live.specs.Shared.{rows_of};
+ghost use Rattle.live.specs.Hands.{HasEvent};
 
 use crate::history::{Ending, Log};
 use crate::opened::Opened;
@@ -43,7 +45,7 @@ pub struct SharedBook<L: Opened> {
 
 impl<L: Opened> Model for SharedBook<L> {
     ghost use Rattle.machine.specs.Call.{Past};
-    ghost use Rattle.live.specs.OneRun.{IsShared};
+    ghost use Rattle.live.specs.Shared.{IsShared};
 
     ghost Value = { Past };
 
@@ -104,6 +106,7 @@ impl<L: Opened> SharedBook<L> {
     pub fn call(&mut self, pass: &mut Pass<L>, event: Event) -> Reply
         requires room { 0 < pass.old.room }
         requires own { OwnEvent pass.old.caller.worker (blocks_in L.opening) event }
+        requires hand { HasEvent pass.old.kept event }
         ensures kept { pass.new ≡ keeping pass.old (call_of (event_of event) (reply_of result)) }
         ensures replies { Replies event result }
         ensures own { OwnReply pass.old.caller.worker (blocks_in L.opening) result }
@@ -128,11 +131,13 @@ impl<L: Opened> SharedBook<L> {
     fn ask(&mut self, pass: &mut Pass<L>, event: Event) -> Reply
         requires room { 0 < pass.old.room }
         requires own { OwnEvent pass.old.caller.worker (blocks_in L.opening) event }
+        requires hand { HasEvent pass.old.kept event }
         ensures kept { pass.new ≡ keeping pass.old (call_of (event_of event) (reply_of result)) }
         ensures replies { Replies event result }
         ensures own { OwnReply pass.old.caller.worker (blocks_in L.opening) result }
         ensures handed { IsHanded result }
     {
+        self.book.history_is_right();
         let reply = pass.ask(&mut self.book, &mut self.log, event);
         self.book.history_is_right();
         reply

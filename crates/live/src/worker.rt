@@ -7,7 +7,9 @@ ghost use Rattle.book.specs.Replies.{Replies};
 ghost use Rattle.turns.specs.Turns.{AwaitsAll, resumes_at, answer_by};
 ghost use Rattle.turns.specs.Tickets.{blocks_in, is_ending, holds, holds_after, IsOwn, OwnEvent, OwnReply, OwnStage, OwnTransition, IsHanded};
 ghost use Rattle.live.specs.Works.{Reads, Writes, Worked, Repeated, no_memory};
-ghost use Rattle.live.specs.Shares.{one_if, Carries, KeepsShare};
+ghost use Rattle.live.specs.Matching.{has_share};
+ghost use Rattle.live.specs.Shares.{one_if, strange, Carries, KeepsShare};
+ghost use Rattle.live.specs.Hands.{HasEvent, HasStage};
 ghost use Rattle.live.specs.Runs.{CallMade, CallWants, Made, Wants, Linked, Closed, Ran, Looked, Judging, Did, Done};
 
 use crate::hand::Hand;
@@ -50,6 +52,7 @@ impl<L: Opened, D: SharedDevice> Live<L, D> {
     fn call<R: Wait>(&self, rt: &R, pass: &mut Pass<L>, event: Event, marks: bool) -> Reply
         requires room { 0 < pass.old.room }
         requires own { OwnEvent pass.old.caller.worker (blocks_in L.opening) event }
+        requires hand { HasEvent pass.old.kept event }
         ensures kept { pass.new ≡ keeping pass.old (call_of (event_of event) (reply_of result)) }
         ensures replies { Replies event result }
         ensures own { OwnReply pass.old.caller.worker (blocks_in L.opening) result }
@@ -97,6 +100,7 @@ impl<L: Opened, D: SharedDevice> Live<L, D> {
     ) -> Result<Transition, AllocError>
         requires room { 0 < pass.old.room }
         requires own { OwnEvent pass.old.caller.worker (blocks_in L.opening) event }
+        requires hand { HasEvent pass.old.kept event }
         requires awaits { AwaitsAll (Want.Call pending event) }
         ensures made { IfOk result (λ t. CallMade pending event pass.old.kept pass.new.kept t) }
         ensures wants { OnErr result (CallWants pending event pass.old.kept pass.new.kept) }
@@ -148,6 +152,7 @@ impl<L: Opened, D: SharedDevice> Live<L, D> {
     ) -> Result<Transition, AllocError>
         requires room { 0 < pass.old.room }
         requires own { OwnStage pass.old.caller.worker (blocks_in L.opening) stage }
+        requires hand { HasStage pass.old.kept stage }
         ensures made { IfOk result (λ t. Made L.opening.watermarks stage pass.old.kept pass.new.kept t) }
         ensures wants { OnErr result (Wants L.opening.watermarks stage pass.old.kept pass.new.kept) }
         ensures own { IfOk result (λ t. OwnTransition pass.old.caller.worker (blocks_in L.opening) t) }
@@ -215,11 +220,13 @@ impl<L: Opened, D: SharedDevice> Live<L, D> {
         spare: usize,
     ) -> Option<Stage>
         requires own { OwnStage pass.old.caller.worker (blocks_in L.opening) stage }
+        requires hand { HasStage pass.old.kept stage }
         requires held { holds stage ≡ true → (0 < pass.old.room) × (vec_len answers.old + spare + 1 < vec_capacity answers.old) }
         requires space { vec_len answers.old + spare < vec_capacity answers.old }
         ensures goes { IfSome result (λ next. Linked L.opening.watermarks actor stage pass.old.kept pass.new.kept answers.old.items answers.new.items next) }
         ensures ends { IfNone result (Closed L.opening.watermarks actor stage pass.old.kept pass.new.kept answers.old.items answers.new.items) }
         ensures own { IfSome result (λ next. OwnStage pass.new.caller.worker (blocks_in L.opening) next) }
+        ensures hand { IfSome result (λ next. HasStage pass.new.kept next) }
         ensures caller { pass.new.caller ≡ pass.old.caller }
         ensures held { IfSome result (λ next. holds next ≡ true → (0 < pass.new.room) × (vec_len answers.new + spare + 1 < vec_capacity answers.new)) }
         ensures space { IfSome result (λ next. vec_len answers.new + spare < vec_capacity answers.new) }
@@ -368,6 +375,8 @@ impl<L: Opened, D: SharedDevice> Live<L, D> {
     ) -> Result<Vec<Told>, Refusal>
         ensures works { IfOk result (λ answers. Worked L.opening.watermarks actor commands.now pass.old.kept pass.new.kept answers.items) }
         ensures share { KeepsShare pass.old.kept pass.new.kept }
+        ensures known { OnOk result (strange pass.new.kept ≡ 0) }
+        ensures rest { has_share pass.old.kept ≡ false → has_share pass.new.kept ≡ false }
         ensures worker { pass.new.caller ≡ pass.old.caller }
         ensures err { IfErr result (λ cause. (cause ≡ Refusal.NoMemory) × (pass.new.kept ≡ pass.old.kept)) }
     {
@@ -401,6 +410,8 @@ impl<L: Opened, D: SharedDevice> Live<L, D> {
     ) -> Result<Vec<Told>, Refusal>
         ensures works { IfOk result (λ answers. Worked L.opening.watermarks (Actor.Task n) commands.now pass.old.kept pass.new.kept answers.items) }
         ensures share { KeepsShare pass.old.kept pass.new.kept }
+        ensures known { OnOk result (strange pass.new.kept ≡ 0) }
+        ensures rest { has_share pass.old.kept ≡ false → has_share pass.new.kept ≡ false }
         ensures worker { pass.new.caller ≡ pass.old.caller }
         ensures err { IfErr result (λ cause. (cause ≡ Refusal.NoMemory) × (pass.new.kept ≡ pass.old.kept)) }
     {
@@ -416,6 +427,8 @@ impl<L: Opened, D: SharedDevice> Live<L, D> {
     ) -> Result<Vec<Told>, Refusal>
         ensures works { IfOk result (λ answers. Worked L.opening.watermarks Actor.Control commands.now pass.old.kept pass.new.kept answers.items) }
         ensures share { KeepsShare pass.old.kept pass.new.kept }
+        ensures known { OnOk result (strange pass.new.kept ≡ 0) }
+        ensures rest { has_share pass.old.kept ≡ false → has_share pass.new.kept ≡ false }
         ensures worker { pass.new.caller ≡ pass.old.caller }
         ensures err { IfErr result (λ cause. (cause ≡ Refusal.NoMemory) × (pass.new.kept ≡ pass.old.kept)) }
     {
@@ -427,6 +440,8 @@ impl<L: Opened, D: SharedDevice> Live<L, D> {
     pub fn daemon<R: Wait>(&self, rt: &R, pass: &mut Pass<L>)
         ensures works { Repeated L.opening.watermarks Actor.Daemon Command.Daemon pass.old.kept pass.new.kept }
         ensures share { KeepsShare pass.old.kept pass.new.kept }
+        ensures known { strange pass.new.kept ≡ 0 }
+        ensures rest { has_share pass.old.kept ≡ false → has_share pass.new.kept ≡ false }
         ensures worker { pass.new.caller ≡ pass.old.caller }
     {
         pass.sit(self.seat(rt));

@@ -7,7 +7,7 @@ use subcommands::{Drawing, Options, Placement};
 
 /// The program's version, and the logic in which it is proved, which `rt version` says of a toolchain. What is
 /// proved hangs on the logic, and not on the toolchain's number. `docs/check_commands` compares the logic.
-const VERSION: &str = "0.1.0 (logic dac8208d650f15bf)";
+const VERSION: &str = "0.2.0 (logic dac8208d650f15bf)";
 
 /// What the words ask for.
 #[derive(Clone, Copy, Debug, PartialEq, Eq)]
@@ -625,7 +625,7 @@ mod tests {
         for line in ["memcgrun --version", "memcgrun -V"] {
             let (text, asked) = text_of(rt.alloc(), line)?;
             let shown = text.as_str();
-            assert!(rt; shown.starts_with("memcgrun 0.1.0 (logic "), "{shown}");
+            assert!(rt; shown.starts_with("memcgrun 0.2.0 (logic "), "{shown}");
             assert!(rt; shown.ends_with(")\n"), "{shown}");
             assert!(rt; asked, "{line}");
         }

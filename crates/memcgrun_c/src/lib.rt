@@ -1,26 +1,37 @@
-//! The work of `memcgrun` for programs in other languages: a script in, the answers and the lines of a fault out, in
+//! The work of `memcgrun` for programs in other languages: a script in, the answers and what is said beside them out, in
 //! buffers of the caller.
 //!
 //! Each call runs a script over a new device, and keeps nothing. It writes as many bytes into a buffer as there is room
-//! for, and says how many there are; where a buffer was too short the caller asks once more. `library/memcgrun.h` says
-//! what a caller owes: that can't be said here.
+//! for, and says how many there are, so that the caller can ask again with more room. These calls are not for users:
+//! `library/memcgrun.h` declares what users call, and `library/memcgrun.c` makes these calls for them. It owes them what no
+//! contract can ask of C: no pointer is null, no memory overlaps another, each length is below 2^63, and each `bool` is 0 or 1.
 #![tactic(auto)]
 
-ghost use Rattle.std.specs.Prelude.{◌≡◌, ℕ, ◌≤◌, false, true, List, [], length, Some, IsErr, IfOk, IfErr, OnOk, OnErr};
-ghost use Rattle.std.specs.Str.Lines.{lines};
-ghost use Rattle.scripts.specs.declared.fault.Cause.{Cause};
-ghost use Rattle.scripts.specs.declared.mode.Mode.TheVariants.{Schedule};
-ghost use Rattle.scripts.specs.Script.{IsFirstFault};
-ghost use Rattle.printer.specs.Asked.{plain_as};
-ghost use Rattle.expectations.specs.Expected.{expected_of};
-ghost use Rattle.subcommands.specs.Scripts.{PrintsScript, PrintsPart};
-ghost use Rattle.subcommands.specs.Charted.{ListsScript};
-ghost use Rattle.memcgrun_c.specs.Buffers.{Got};
-ghost use Rattle.memcgrun_c.specs.Calls.{options_of, placement_of, WhyNot, Tells};
+mod said;
+mod status;
 
+ghost use Rattle.std.specs.Prelude.{◌≡◌, ◌≢◌, ◌⊎◌, ℕ, ◌<◌, ◌≤◌, false, true, List, [], length, codes, Some, IsErr, IfOk, IfErr, OnOk, OnErr};
+ghost use Rattle.std.specs.Str.Lines.{lines};
+ghost use Rattle.machine.specs.declared.limit.TheConstants.{SCRIPT_BYTES};
+ghost use Rattle.scripts.specs.declared.mode.Mode.TheVariants.{Schedule};
+ghost use Rattle.scripts.specs.Script.{IsFaultless};
+ghost use Rattle.printer.specs.Asked.{plain_as, speaks};
+ghost use Rattle.expectations.specs.Expected.{expected_of};
+ghost use Rattle.subcommands.specs.Scripts.{PrintsScript, PrintsPart, EndsScript};
+ghost use Rattle.subcommands.specs.Charted.{ListsScript};
+ghost use Rattle.std.specs.Io.KnownBytes.{Appends};
+ghost use Rattle.subcommands.specs.Told.{IsRefused, AllTold};
+ghost use Rattle.memcgrun_c.specs.declared.status.TheConstants.{OK, BAD_SCRIPT, NO_MEMORY, REFUSED, DIFFERS};
+ghost use Rattle.memcgrun_c.specs.Buffers.{Got, Gives};
+ghost use Rattle.memcgrun_c.specs.Calls.{placement_of, options_of, chart_options_of, status_by, IsUnsound, WhyNot, Tells, TellsPart};
+
+use printer::write_bytes;
+use said::{Said, tell};
+use scripts::ScriptFault;
+use status::{DIFFERS, NO_MEMORY, OK};
 use std::alloc::Global;
 use subcommands::{
-    Drawing, Fault, Options, Placement, chart, read_and_check, read_script, run_script, status_of,
+    Checked, Drawing, Fault, Options, Placement, SCRIPT_BYTES, chart, check_script, run_script,
 };
 
 /// What stands for the name of the script's file.
@@ -34,16 +45,24 @@ pub struct Lengths {
     pub err: usize,
 }
 
-/// What is asked of a run beside its answers.
+/// What is asked of a run beside its answers, by the program's options of these names.
 #[repr(C)]
 #[derive(Clone, Copy)]
 pub struct Asked {
-    /// Before each line of an answer stand the number and the words of its line of the script.
+    /// The most turns that a line takes.
+    pub turns: u32,
+    /// The number and the words of its line of the script come before each line of an answer.
     pub labels: bool,
     /// The first line that is refused ends the run, and is its fault.
     pub strict: bool,
     /// Pages that are read in are placed as Linux does.
     pub as_linux: bool,
+    /// A line says why each line was refused and each task killed, and a second one says more of a faulty line.
+    pub explain: bool,
+    /// Bytes that tasks read are left out.
+    pub quiet: bool,
+    /// A few lines at the end say how much was done.
+    pub summary: bool,
 }
 
 fn placement_of(as_linux: bool) -> Placement
@@ -56,16 +75,40 @@ fn placement_of(as_linux: bool) -> Placement
     }
 }
 
-/// The program's options for this.
+/// The program's options for a run.
 fn options_of(asked: Asked) -> Options
     ensures { result ≡ options_of asked }
 {
     Options {
+        explain: asked.explain,
         labels: asked.labels,
-        strict: asked.strict,
         placement: placement_of(asked.as_linux),
+        quiet: asked.quiet,
+        strict: asked.strict,
+        summary: asked.summary,
+        turns: asked.turns,
         ..Options::default()
     }
+}
+
+/// The program's options for a chart.
+fn chart_options_of(asked: Asked) -> Options
+    ensures { result ≡ chart_options_of asked }
+{
+    Options {
+        explain: asked.explain,
+        placement: placement_of(asked.as_linux),
+        turns: asked.turns,
+        ..Options::default()
+    }
+}
+
+/// Whether the script has more bytes than a script may have.
+fn is_too_long(script: &[u8]) -> bool
+    ensures long { result ≡ true → SCRIPT_BYTES < length script.now }
+    ensures short { result ≡ false → length script.now ≤ SCRIPT_BYTES }
+{
+    script.len() as u64 > SCRIPT_BYTES
 }
 
 /// Copies as many bytes as there is room for.
@@ -79,34 +122,48 @@ fn fill(buffer: &mut [u8], bytes: &[u8])
     front.copy_from_slice(taken);
 }
 
-/// Copies both texts, and tells how long they are.
-fn give(answers: &[u8], fault: &[u8], out: &mut [u8], err: &mut [u8]) -> Lengths
-    ensures out { Got out.old out.new answers.now × (result.out ≡ length answers.now) }
-    ensures nothing { answers.now ≡ [] → (out.new ≡ out.old) × (result.out ≡ 0) }
-    ensures err { Got err.old err.new fault.now × (result.err ≡ length fault.now) }
-    ensures silent { fault.now ≡ [] → (err.new ≡ err.old) × (result.err ≡ 0) }
+/// Copies both texts, and says how long they are.
+fn give(answers: &[u8], told: &[u8], out: &mut [u8], err: &mut [u8]) -> Lengths
+    ensures out { Gives out.old out.new result.out answers.now }
+    ensures nothing { answers.now ≡ [] → (result.out ≡ 0) × (out.new ≡ out.old) }
+    ensures err { Gives err.old err.new result.err told.now }
+    ensures silent { told.now ≡ [] → (result.err ≡ 0) × (err.new ≡ err.old) }
 {
     fill(out, answers);
-    fill(err, fault);
+    fill(err, told);
     Lengths {
         out: answers.len(),
-        err: fault.len(),
+        err: told.len(),
     }
 }
 
-/// Runs a script, if it is no longer than a script may be.
-fn run(alloc: Global, asked: Asked, script: &[u8], answers: &mut Vec<u8>) -> Result<(), Fault>
+/// Runs a script, unless it is too long.
+fn run(
+    alloc: Global,
+    asked: Asked,
+    script: &[u8],
+    answers: &mut Vec<u8>,
+    said: &mut Said,
+) -> Result<(), Fault>
     requires empty { answers.old.items ≡ [] }
     ensures whole { OnOk result (asked.labels ≡ false → PrintsScript (options_of asked) script.now (Some []) (Some answers.new.items)) }
     ensures start { OnErr result (asked.labels ≡ false → PrintsPart (options_of asked) script.now (Some []) (Some answers.new.items)) }
-    ensures faulty { (n : ℕ) (cause : Cause) → IsFirstFault Schedule (lines script.now) n cause → IsErr result × (answers.new.items ≡ []) }
-    ensures why { IfErr result (WhyNot (options_of asked) script.now) }
+    ensures unsound { IsUnsound script.now → IsErr result × (answers.new.items ≡ []) }
+    ensures why { IfErr result (WhyNot (options_of asked) (codes "script") script.now) }
+    ensures refused { IfErr result (λ why. IsRefused why → asked.labels ≡ false → EndsScript (options_of asked) script.now (Some []) (Some answers.new.items)) }
+    ensures unsaid { IfErr result (λ why. status_by why ≡ BAD_SCRIPT → said.new.bytes.items ≡ said.old.bytes.items) }
+    ensures quiet { speaks (options_of asked) ≡ false → said.new.bytes.items ≡ said.old.bytes.items }
 {
-    let mut reader = script;
-    let bytes = read_script(alloc, &mut reader)?;
-    // Nothing is asked for that is said beside the answers.
-    let mut said = Vec::new(alloc);
-    run_script(alloc, options_of(asked), NAME, &bytes, answers, &mut said)
+    if is_too_long(script) {
+        return Err(Fault::TooLong);
+    }
+    run_script(alloc, options_of(asked), NAME, script, answers, said)?;
+    if said.is_cut {
+        // A run is whole only with all that was said of it.
+        answers.clear();
+        return Err(Fault::Script(ScriptFault::Memory));
+    }
+    Ok(())
 }
 
 /// The status of that, with the lines that say why it failed.
@@ -115,91 +172,112 @@ fn schedule(
     asked: Asked,
     script: &[u8],
     answers: &mut Vec<u8>,
-    fault: &mut Vec<u8>,
+    said: &mut Said,
 ) -> u8
     requires empty { answers.old.items ≡ [] }
-    requires unsaid { fault.old.items ≡ [] }
-    ensures success_or_failure { result ≤ 1 }
-    ensures sound { asked.labels ≡ false → result ≡ 0 → PrintsScript (options_of asked) script.now (Some []) (Some answers.new.items) }
-    ensures silent { result ≡ 0 → fault.new.items ≡ [] }
-    ensures failed { asked.labels ≡ false → result ≡ 1 → PrintsPart (options_of asked) script.now (Some []) (Some answers.new.items) }
-    ensures faulty { (n : ℕ) (cause : Cause) → IsFirstFault Schedule (lines script.now) n cause → (result ≡ 1) × (answers.new.items ≡ []) }
-    ensures told { result ≡ 1 → Tells (options_of asked) script.now fault.new.items }
+    requires unsaid { said.old.bytes.items ≡ [] }
+    ensures known { result ≤ REFUSED }
+    ensures sound { result ≡ OK → asked.labels ≡ false → PrintsScript (options_of asked) script.now (Some []) (Some answers.new.items) }
+    ensures silent { result ≡ OK → speaks (options_of asked) ≡ false → said.new.bytes.items ≡ [] }
+    ensures bad { result ≡ BAD_SCRIPT → IsUnsound script.now }
+    ensures unsound { IsUnsound script.now → ((result ≡ BAD_SCRIPT) ⊎ (result ≡ NO_MEMORY)) × (answers.new.items ≡ []) }
+    ensures strict { result ≡ REFUSED → asked.strict ≡ true }
+    ensures refused { result ≡ REFUSED → asked.labels ≡ false → EndsScript (options_of asked) script.now (Some []) (Some answers.new.items) }
+    ensures cut { result ≡ NO_MEMORY → asked.labels ≡ false → PrintsPart (options_of asked) script.now (Some []) (Some answers.new.items) }
+    ensures told { result ≡ BAD_SCRIPT → Tells (options_of asked) (codes "script") script.now [] said.new.bytes.items result }
+    ensures told_last { result ≡ REFUSED → (before : List ℕ) × (speaks (options_of asked) ≡ false → before ≡ []) × Tells (options_of asked) (codes "script") script.now before said.new.bytes.items result }
+    ensures told_part { result ≡ NO_MEMORY → (before : List ℕ) × (speaks (options_of asked) ≡ false → before ≡ []) × TellsPart (options_of asked) (codes "script") script.now before said.new.bytes.items }
 {
-    let ran = run(alloc, asked, script, answers);
-    status_of(ran, fault)
+    match run(alloc, asked, script, answers, said) {
+        Ok(()) => OK,
+        Err(why) => tell(&why, said),
+    }
 }
 
-/// Runs a script over a new device, as `memcgrun schedule` does, and gives its answers. The status is 0, or 1 where
-/// `err` has the lines that say why.
+/// Runs a script over a new device, as `memcgrun schedule` does, and gives its answers.
 #[unsafe(no_mangle)]
-pub extern "C" fn memcgrun_schedule_into(
+pub extern "C" fn memcgrun_proved_schedule(
     alloc: Global,
     script: &[u8],
-    asked: Asked,
+    asked: &Asked,
     out: &mut [u8],
     err: &mut [u8],
     lengths: &mut Lengths,
 ) -> u8
-    ensures success_or_failure { result ≤ 1 }
-    // Where it is 0, `out` got what all of the script prints; with labels the bytes are only tested.
-    ensures sound { asked.labels ≡ false → result ≡ 0 → (bytes : List ℕ) × PrintsScript (options_of asked) script.now (Some []) (Some bytes) × Got out.old out.new bytes × (lengths.new.out ≡ length bytes) }
-    ensures out { (bytes : List ℕ) × Got out.old out.new bytes × (lengths.new.out ≡ length bytes) }
-    ensures silent { result ≡ 0 → (lengths.new.err ≡ 0) × (err.new ≡ err.old) }
-    // Of a script with a faulty line it is 1, and `out` got nothing.
-    ensures faulty { (n : ℕ) (cause : Cause) → IsFirstFault Schedule (lines script.now) n cause → (result ≡ 1) × (lengths.new.out ≡ 0) × (out.new ≡ out.old) }
-    // Where it is 1, `out` got the beginning of what the script prints, or nothing, and `err` what says why.
-    ensures failed { asked.labels ≡ false → result ≡ 1 → (bytes : List ℕ) × PrintsPart (options_of asked) script.now (Some []) (Some bytes) × Got out.old out.new bytes × (lengths.new.out ≡ length bytes) }
-    ensures told { result ≡ 1 → (text : List ℕ) × Tells (options_of asked) script.now text × Got err.old err.new text × (lengths.new.err ≡ length text) }
+    // One of OK, BAD_SCRIPT, NO_MEMORY and REFUSED.
+    ensures known { result ≤ REFUSED }
+    // OK: `out` got all that the script prints; with labels the bytes are only tested.
+    ensures sound { result ≡ OK → asked.now.labels ≡ false → (bytes : List ℕ) × PrintsScript (options_of asked.now) script.now (Some []) (Some bytes) × Gives out.old out.new lengths.new.out bytes }
+    ensures silent { result ≡ OK → speaks (options_of asked.now) ≡ false → (lengths.new.err ≡ 0) × (err.new ≡ err.old) }
+    // BAD_SCRIPT: the script can't be run, and of such a script there is no other status, if memory does not lack. Nothing was run.
+    ensures bad { result ≡ BAD_SCRIPT → IsUnsound script.now }
+    ensures unsound { IsUnsound script.now → ((result ≡ BAD_SCRIPT) ⊎ (result ≡ NO_MEMORY)) × (lengths.new.out ≡ 0) × (out.new ≡ out.old) }
+    // REFUSED: the run was strict, and `out` got the answers up to the first that refuses something, and that one too.
+    ensures strict { result ≡ REFUSED → asked.now.strict ≡ true }
+    ensures refused { result ≡ REFUSED → asked.now.labels ≡ false → (bytes : List ℕ) × EndsScript (options_of asked.now) script.now (Some []) (Some bytes) × Gives out.old out.new lengths.new.out bytes }
+    // NO_MEMORY: `out` got the beginning of what the script prints, or nothing.
+    ensures cut { result ≡ NO_MEMORY → asked.now.labels ≡ false → (bytes : List ℕ) × PrintsPart (options_of asked.now) script.now (Some []) (Some bytes) × Gives out.old out.new lengths.new.out bytes }
+    // `err` got all lines of the reason: of a bad script nothing else, of a refused line after what the options ask for. NO_MEMORY: maybe only their beginning.
+    ensures told { result ≡ BAD_SCRIPT → (text : List ℕ) × Tells (options_of asked.now) (codes "script") script.now [] text result × Gives err.old err.new lengths.new.err text }
+    ensures told_last { result ≡ REFUSED → (before text : List ℕ) × (speaks (options_of asked.now) ≡ false → before ≡ []) × Tells (options_of asked.now) (codes "script") script.now before text result × Gives err.old err.new lengths.new.err text }
+    ensures told_part { result ≡ NO_MEMORY → (before text : List ℕ) × (speaks (options_of asked.now) ≡ false → before ≡ []) × TellsPart (options_of asked.now) (codes "script") script.now before text × Gives err.old err.new lengths.new.err text }
+    // With labels too, and whatever is said: as many bytes as there is room for, and their number.
+    ensures out { (bytes : List ℕ) × Gives out.old out.new lengths.new.out bytes }
+    ensures err { (text : List ℕ) × Gives err.old err.new lengths.new.err text }
 {
     let mut answers = Vec::new(alloc);
-    let mut fault = Vec::new(alloc);
-    let status = schedule(alloc, asked, script, &mut answers, &mut fault);
-    *lengths = give(&answers, &fault, out, err);
+    let mut said = Said::new(alloc);
+    let status = schedule(alloc, *asked, script, &mut answers, &mut said);
+    *lengths = give(&answers, &said.bytes, out, err);
     status
 }
 
-/// The table or the picture of a script's run, if the script is no longer than a script may be.
+/// The table or the picture of a script's run, unless the script is too long.
 fn draw(
     alloc: Global,
     kind: Drawing,
-    as_linux: bool,
+    asked: Asked,
     script: &[u8],
     drawn: &mut Vec<u8>,
 ) -> Result<(), Fault>
     requires empty { drawn.old.items ≡ [] }
-    ensures listed { OnOk result (kind ≡ Drawing.Table → ListsScript (plain_as (placement_of as_linux)) script.now (Some []) (Some drawn.new.items)) }
-    ensures faulty { (n : ℕ) (cause : Cause) → IsFirstFault Schedule (lines script.now) n cause → IsErr result × (drawn.new.items ≡ []) }
-    ensures why { IfErr result (WhyNot (plain_as (placement_of as_linux)) script.now) }
+    ensures listed { OnOk result (kind ≡ Drawing.Table → ListsScript (chart_options_of asked) script.now (Some []) (Some drawn.new.items)) }
+    ensures unsound { IsUnsound script.now → IsErr result }
+    ensures why { IfErr result (WhyNot (chart_options_of asked) (codes "script") script.now) }
 {
-    let mut reader = script;
-    let bytes = read_script(alloc, &mut reader)?;
-    let options = Options {
-        placement: placement_of(as_linux),
-        ..Options::default()
-    };
-    chart(alloc, options, kind, NAME, &bytes, drawn)
+    if is_too_long(script) {
+        return Err(Fault::TooLong);
+    }
+    chart(alloc, chart_options_of(asked), kind, NAME, script, drawn)
 }
 
-/// The status of that, with the lines that say why it failed.
+/// The status of that, with the lines that say why it failed. Then nothing is drawn.
 fn chart_status(
     alloc: Global,
     kind: Drawing,
-    as_linux: bool,
+    asked: Asked,
     script: &[u8],
     drawn: &mut Vec<u8>,
-    fault: &mut Vec<u8>,
+    said: &mut Said,
 ) -> u8
     requires empty { drawn.old.items ≡ [] }
-    requires unsaid { fault.old.items ≡ [] }
-    ensures success_or_failure { result ≤ 1 }
-    ensures listed { kind ≡ Drawing.Table → result ≡ 0 → ListsScript (plain_as (placement_of as_linux)) script.now (Some []) (Some drawn.new.items) }
-    ensures silent { result ≡ 0 → fault.new.items ≡ [] }
-    ensures faulty { (n : ℕ) (cause : Cause) → IsFirstFault Schedule (lines script.now) n cause → (result ≡ 1) × (drawn.new.items ≡ []) }
-    ensures told { result ≡ 1 → Tells (plain_as (placement_of as_linux)) script.now fault.new.items }
+    requires unsaid { said.old.bytes.items ≡ [] }
+    ensures known { result ≤ NO_MEMORY }
+    ensures listed { result ≡ OK → kind ≡ Drawing.Table → ListsScript (chart_options_of asked) script.now (Some []) (Some drawn.new.items) }
+    ensures silent { result ≡ OK → said.new.bytes.items ≡ [] }
+    ensures undrawn { result ≢ OK → drawn.new.items ≡ [] }
+    ensures bad { result ≡ BAD_SCRIPT → IsUnsound script.now }
+    ensures unsound { IsUnsound script.now → (result ≡ BAD_SCRIPT) ⊎ (result ≡ NO_MEMORY) }
+    ensures told { result ≡ BAD_SCRIPT → Tells (chart_options_of asked) (codes "script") script.now [] said.new.bytes.items result }
+    ensures told_part { result ≡ NO_MEMORY → TellsPart (chart_options_of asked) (codes "script") script.now [] said.new.bytes.items }
 {
-    let ran = draw(alloc, kind, as_linux, script, drawn);
-    status_of(ran, fault)
+    match draw(alloc, kind, asked, script, drawn) {
+        Ok(()) => OK,
+        Err(why) => {
+            drawn.clear();
+            tell(&why, said)
+        }
+    }
 }
 
 fn drawing(table: bool) -> Drawing
@@ -213,47 +291,104 @@ fn drawing(table: bool) -> Drawing
 }
 
 /// Runs a script over a new device, as `memcgrun chart` does, and gives what each group that it makes was charged with
-/// behind each of its lines: as a table of comma-separated values, or as a picture, SVG. The status is 0, or 1 where
-/// `err` has the line that says why.
+/// after each of its lines: as a table of comma-separated values, or as a picture, SVG. Of what is asked it takes the turns, the
+/// placement and whether to explain a faulty line.
 #[unsafe(no_mangle)]
-pub extern "C" fn memcgrun_chart_into(
+pub extern "C" fn memcgrun_proved_chart(
     alloc: Global,
     script: &[u8],
+    asked: &Asked,
     table: bool,
-    as_linux: bool,
     out: &mut [u8],
     err: &mut [u8],
     lengths: &mut Lengths,
 ) -> u8
-    ensures success_or_failure { result ≤ 1 }
-    // Where it is 0, and a table was asked for, `out` got the table; how a picture looks is only tested.
-    ensures listed { table ≡ true → result ≡ 0 → (bytes : List ℕ) × ListsScript (plain_as (placement_of as_linux)) script.now (Some []) (Some bytes) × Got out.old out.new bytes × (lengths.new.out ≡ length bytes) }
-    ensures out { (bytes : List ℕ) × Got out.old out.new bytes × (lengths.new.out ≡ length bytes) }
-    ensures silent { result ≡ 0 → (lengths.new.err ≡ 0) × (err.new ≡ err.old) }
-    // Of a script with a faulty line it is 1, and `out` got nothing.
-    ensures faulty { (n : ℕ) (cause : Cause) → IsFirstFault Schedule (lines script.now) n cause → (result ≡ 1) × (lengths.new.out ≡ 0) × (out.new ≡ out.old) }
-    // Where it is 1, `err` got what says why.
-    ensures told { result ≡ 1 → (text : List ℕ) × Tells (plain_as (placement_of as_linux)) script.now text × Got err.old err.new text × (lengths.new.err ≡ length text) }
+    // One of OK, BAD_SCRIPT and NO_MEMORY.
+    ensures known { result ≤ NO_MEMORY }
+    // OK: if a table was asked for, `out` got it; how a picture looks is only tested. Nothing is told.
+    ensures listed { result ≡ OK → table ≡ true → (bytes : List ℕ) × ListsScript (chart_options_of asked.now) script.now (Some []) (Some bytes) × Gives out.old out.new lengths.new.out bytes }
+    ensures silent { result ≡ OK → (lengths.new.err ≡ 0) × (err.new ≡ err.old) }
+    // Else nothing is drawn.
+    ensures undrawn { result ≢ OK → (lengths.new.out ≡ 0) × (out.new ≡ out.old) }
+    // BAD_SCRIPT: the script can't be run, and of such a script there is no other status, if memory does not lack.
+    ensures bad { result ≡ BAD_SCRIPT → IsUnsound script.now }
+    ensures unsound { IsUnsound script.now → (result ≡ BAD_SCRIPT) ⊎ (result ≡ NO_MEMORY) }
+    // `err` got all lines of the reason; for NO_MEMORY maybe only their beginning.
+    ensures told { result ≡ BAD_SCRIPT → (text : List ℕ) × Tells (chart_options_of asked.now) (codes "script") script.now [] text result × Gives err.old err.new lengths.new.err text }
+    ensures told_part { result ≡ NO_MEMORY → (text : List ℕ) × TellsPart (chart_options_of asked.now) (codes "script") script.now [] text × Gives err.old err.new lengths.new.err text }
+    // A picture too: as many bytes as there is room for, and their number.
+    ensures out { (bytes : List ℕ) × Gives out.old out.new lengths.new.out bytes }
 {
     let mut drawn = Vec::new(alloc);
-    let mut fault = Vec::new(alloc);
-    let status = chart_status(
-        alloc,
-        drawing(table),
-        as_linux,
-        script,
-        &mut drawn,
-        &mut fault,
-    );
-    *lengths = give(&drawn, &fault, out, err);
+    let mut said = Said::new(alloc);
+    let kind = drawing(table);
+    let status = chart_status(alloc, kind, *asked, script, &mut drawn, &mut said);
+    *lengths = give(&drawn, &said.bytes, out, err);
     status
 }
 
+/// Holds the answers of a script against those that it expects, unless it is too long.
+fn judge(
+    alloc: Global,
+    placement: Placement,
+    script: &[u8],
+    line: &mut Vec<u8>,
+) -> Result<Checked, Fault>
+    ensures met { IfOk result (λ checked. checked ≡ Checked.Met → PrintsScript (plain_as placement) script.now (Some []) (Some (expected_of script.now))) }
+    ensures ran { OnOk result (IsFaultless Schedule (lines script.now)) }
+    ensures unsound { IsUnsound script.now → IsErr result }
+    ensures why { IfErr result (WhyNot (plain_as placement) [] script.now) }
+{
+    if is_too_long(script) {
+        return Err(Fault::TooLong);
+    }
+    check_script(alloc, placement, NAME, script, line)
+}
+
+/// Adds the lines that say why, after the name that stands for the script's, and gives the status of that.
+fn tell_named(why: &Fault, said: &mut Said) -> u8
+    requires unsaid { said.old.bytes.items ≡ [] }
+    ensures either { (result ≡ status_by why.now) ⊎ (result ≡ NO_MEMORY) }
+    ensures whole { result ≢ NO_MEMORY → AllTold (Appends (Some (codes "script: ")) (Some said.new.bytes.items)) why.now }
+{
+    match write_bytes(said, b"script: ") {
+        Ok(()) => tell(why, said),
+        Err(_) => NO_MEMORY,
+    }
+}
+
+/// The status of that, with the lines that say why it failed. Then there is no line of a check.
+fn check_status(
+    alloc: Global,
+    placement: Placement,
+    script: &[u8],
+    line: &mut Vec<u8>,
+    said: &mut Said,
+) -> u8
+    requires unsaid { said.old.bytes.items ≡ [] }
+    ensures known { (result ≤ NO_MEMORY) ⊎ (result ≡ DIFFERS) }
+    ensures met { result ≡ OK → PrintsScript (plain_as placement) script.now (Some []) (Some (expected_of script.now)) }
+    ensures differs { result ≡ DIFFERS → IsFaultless Schedule (lines script.now) }
+    ensures silent { (result ≡ OK) ⊎ (result ≡ DIFFERS) → said.new.bytes.items ≡ [] }
+    ensures unjudged { (result ≡ BAD_SCRIPT) ⊎ (result ≡ NO_MEMORY) → line.new.items ≡ [] }
+    ensures bad { result ≡ BAD_SCRIPT → IsUnsound script.now }
+    ensures unsound { IsUnsound script.now → (result ≡ BAD_SCRIPT) ⊎ (result ≡ NO_MEMORY) }
+    ensures told { result ≡ BAD_SCRIPT → Tells (plain_as placement) [] script.now (codes "script: ") said.new.bytes.items result }
+{
+    match judge(alloc, placement, script, line) {
+        Ok(Checked::Met) => OK,
+        Ok(Checked::Differs) => DIFFERS,
+        Err(why) => {
+            line.clear();
+            tell_named(&why, said)
+        }
+    }
+}
+
 /// Runs a script over a new device, as `memcgrun check` does, and holds its answers against those that its lines `#> ..`
-/// expect. The status is 0 where they are the same, and else 1. `out` has the line that says what comes of it, and `err`,
-/// where it could not be run, why.
+/// expect. `out` has the line that says what comes of it, and `err`, if it could not be run, why.
 #[unsafe(no_mangle)]
-pub extern "C" fn memcgrun_check_into(
+pub extern "C" fn memcgrun_proved_check(
     alloc: Global,
     script: &[u8],
     as_linux: bool,
@@ -261,23 +396,27 @@ pub extern "C" fn memcgrun_check_into(
     err: &mut [u8],
     lengths: &mut Lengths,
 ) -> u8
-    ensures met_or_not { result ≤ 1 }
-    // Where it is 0, the answers of the plain machine print exactly what the script expects. What the two texts say is only tested.
-    ensures met { result ≡ 0 → PrintsScript (plain_as (placement_of as_linux)) script.now (Some []) (Some (expected_of script.now)) }
-    ensures line { (bytes : List ℕ) × Got out.old out.new bytes × (lengths.new.out ≡ length bytes) }
-    ensures fault { (text : List ℕ) × Got err.old err.new text × (lengths.new.err ≡ length text) }
+    // One of OK, BAD_SCRIPT, NO_MEMORY and DIFFERS.
+    ensures known { (result ≤ NO_MEMORY) ⊎ (result ≡ DIFFERS) }
+    // OK: the answers of the plain machine print exactly what the script expects.
+    ensures met { result ≡ OK → PrintsScript (plain_as (placement_of as_linux)) script.now (Some []) (Some (expected_of script.now)) }
+    // DIFFERS: the script was run; that its answers differ from those that it expects is only tested.
+    ensures differs { result ≡ DIFFERS → IsFaultless Schedule (lines script.now) }
+    ensures silent { (result ≡ OK) ⊎ (result ≡ DIFFERS) → (lengths.new.err ≡ 0) × (err.new ≡ err.old) }
+    // Else nothing was judged.
+    ensures unjudged { (result ≡ BAD_SCRIPT) ⊎ (result ≡ NO_MEMORY) → (lengths.new.out ≡ 0) × (out.new ≡ out.old) }
+    // BAD_SCRIPT: the script can't be run, and of such a script there is no other status, if memory does not lack.
+    ensures bad { result ≡ BAD_SCRIPT → IsUnsound script.now }
+    ensures unsound { IsUnsound script.now → (result ≡ BAD_SCRIPT) ⊎ (result ≡ NO_MEMORY) }
+    // `err` got `script: ` and then all lines of the reason.
+    ensures told { result ≡ BAD_SCRIPT → (text : List ℕ) × Tells (plain_as (placement_of as_linux)) [] script.now (codes "script: ") text result × Gives err.old err.new lengths.new.err text }
+    // What the line says is only tested: as many bytes as there is room for, and their number.
+    ensures line { (bytes : List ℕ) × Gives out.old out.new lengths.new.out bytes }
+    ensures fault { (text : List ℕ) × Gives err.old err.new lengths.new.err text }
 {
-    let mut reader = script;
     let mut line = Vec::new(alloc);
-    let mut fault = Vec::new(alloc);
-    let status = read_and_check(
-        alloc,
-        placement_of(as_linux),
-        NAME,
-        &mut reader,
-        &mut line,
-        &mut fault,
-    );
-    *lengths = give(&line, &fault, out, err);
+    let mut said = Said::new(alloc);
+    let status = check_status(alloc, placement_of(as_linux), script, &mut line, &mut said);
+    *lengths = give(&line, &said.bytes, out, err);
     status
 }

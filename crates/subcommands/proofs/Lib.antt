@@ -7,3 +7,4 @@ pub mod CrewLemmas
 pub mod RoundLemmas
 pub mod RisingLemmas
 pub mod EndLemmas
+mod HandedLemmas

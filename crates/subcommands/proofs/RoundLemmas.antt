@@ -19,9 +19,11 @@ use Rattle.scripts.specs.Work.{number_of, numbers_of}
 use Rattle.printer.specs.Prints.{texts}
 use Rattle.printer.specs.SinkLaws.{texts-append}
 use Rattle.subcommands.specs.Threads.{Board, no_pass, pieces_of, Pieces}
-use Rattle.subcommands.specs.Crews.{is_at, board_of, jobs_of, Hires, Asked}
-use Rattle.subcommands.specs.Rounds.{NotAmong, IsApart, HiredAll, SetsUp, AnswersAre, SaysRows, passes_in, Ran}
+use Rattle.live.specs.Matching.{has_share}
+use Rattle.subcommands.specs.Crews.{is_at, board_of, jobs_of, Hires, Asked, Counts}
+use Rattle.subcommands.specs.Rounds.{NotAmong, IsApart, HiredAll, SetsUp, AnswersAre, SaysRows, passes_in, AreAtRest, AreHandedIn, Ran}
 use Rattle.subcommands.proofs.Boards.{at_own, over, boards, board_of-append, own_kept, other_kept, pieces_from, pieces-append, EachWorked, each_worked, work_pieces}
+use Rattle.subcommands.proofs.HandedLemmas.{rest-append, rest-parts, rest-fresh, passes-append, hires-rest, asked-rest, worked-rest, length-passes}
 use Rattle.subcommands.proofs.CrewLemmas.{hires-board, hires-jobs, hires-apart, asked-piece, asked-more, asked-apart}
 
 abbrev Job : Type 0
@@ -33,20 +35,21 @@ Line = Actor × Command
 -- ---- hiring
 
 pub hired-nil : HiredAll [] []
-hired-nil = record { jobs = refl; fresh = λ who. refl; apart = tt }
+hired-nil = record { jobs = refl; fresh = λ who. refl; apart = tt; rest = tt }
 
 pub hired-push : (rows : List Job) (who : Actor) (commands : List Command) (old new : List WorkerOf) → HiredAll rows old → Hires who commands old new → HiredAll (rows ++ (who, commands) ∷ []) new
 hired-push rows who commands old new all one = record {
   jobs = hires-jobs who commands old new one ∙ ap (λ (js : List Job). js ++ (who, commands) ∷ []) all.jobs;
   fresh = λ other. hires-board who commands old new one other ∙ all.fresh other;
   apart = hires-apart who commands old new one all.apart;
+  rest = hires-rest who commands old new one all.rest;
 }
 
 -- ---- what stands before the threads go
 
 module _ (marks : Watermarks) where
   pub sets_up-nil : (ws : List WorkerOf) (a : Option (List ℕ)) → SetsUp marks [] ws ws a a
-  sets_up-nil ws a = record { said = []; pieces = (refl, λ who. refl); more = []; jobs = sym (append-nil (jobs_of ws)); apart = λ h. h; prints = Appends-nil a }
+  sets_up-nil ws a = record { said = []; pieces = (refl, λ who. refl); more = []; jobs = sym (append-nil (jobs_of ws)); apart = λ h. h; rest = λ h. h; prints = Appends-nil a }
 
   pub sets_up-one : (who : Actor) (command : Command) (old new : List WorkerOf) (said : List Reply) (a b : Option (List ℕ)) → Asked marks who command old new said → Appends a b (texts said) → SetsUp marks ((who, command) ∷ []) old new a b
   sets_up-one who command old new said a b asked printed = record {
@@ -55,6 +58,7 @@ module _ (marks : Watermarks) where
     more = (asked-more marks who command old new said asked).0;
     jobs = (asked-more marks who command old new said asked).1;
     apart = asked-apart marks who command old new said asked;
+    rest = asked-rest marks who command old new said asked;
     prints = printed;
   }
 
@@ -67,6 +71,7 @@ module _ (marks : Watermarks) where
         more = first.more ++ second.more;
         jobs = second.jobs ∙ ap (λ (js : List Job). js ++ second.more) first.jobs ∙ append_assoc (jobs_of old) first.more second.more;
         apart = λ h. second.apart (first.apart h);
+        rest = λ h. second.rest (first.rest h);
         prints = subst (Appends a c) (sym (texts-append first.said second.said)) (Appends-trans a b c (texts first.said) (texts second.said) first.prints second.prints);
       }
 
@@ -205,4 +210,17 @@ module _ (marks : Watermarks) (setup : List Line) (rows : List Job) (hired ready
         kept = ap kept_by in_all ∙ map-append (λ (pass : PassOf). pass.kept) (passes_in us) (daemon ∷ []) ∙ ap (λ (kss : List (List Kept)). kss ++ daemon.kept ∷ []) (kept_board us apart-after);
         all = has_worker us;
         prints = Appends-trans a b c (texts sets.said) (texts says.answers) sets.prints says.prints;
+      }
+
+  -- and its passes, as many as were given out
+  pub handed_in : (fresh daemon : PassOf) (passes : List PassOf) (r0 r1 r2 r3 : ℕ) → fresh.kept ≡ [] → (has_share fresh.kept ≡ false → has_share daemon.kept ≡ false) → passes ≡ passes_in worked ++ passes_in others ++ daemon ∷ []
+      → r0 ≡ 0 → Counts r0 [] r1 hired → r2 ≡ r1 + 1 → Counts r2 hired r3 ready → AreHandedIn r3 passes
+  handed_in fresh daemon passes r0 r1 r2 r3 new on are none one two three =
+      let rest : AreAtRest (passes_in workers ++ passes_in others) = subst AreAtRest (ap passes_in (sym whole) ∙ passes-append workers others) (sets.rest all.rest) in
+      let parts = rest-parts (passes_in workers) (passes_in others) rest in
+      let last : AreAtRest (daemon ∷ []) = (on (rest-fresh fresh.kept new), tt) in
+      record {
+        many =
+          omega (arith, none, one, two, three, len, ap length whole, length-append workers others, ap length are, length-append (passes_in worked ++ passes_in others) (daemon ∷ []), length-append (passes_in worked) (passes_in others), length-passes worked, length-passes others);
+        rest = subst AreAtRest (sym are) (rest-append (passes_in worked ++ passes_in others) (daemon ∷ []) (rest-append (passes_in worked) (passes_in others) (worked-rest marks workers worked each parts.0) parts.1) last);
       }

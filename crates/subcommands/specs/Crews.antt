@@ -1,5 +1,5 @@
 -- The workers of a run on threads, each actor's once. No public clause cites this.
-use Rattle.std.specs.Prelude.{◌≡◌, ◌⊎◌, ℕ, ◌<◌, ◌==◌, suc, Bool, List, [], ◌∷◌, ◌++◌, length, map, slice_index_or, slice_set, if◌then◌else◌, Ok}
+use Rattle.std.specs.Prelude.{◌≡◌, ◌⊎◌, ℕ, ◌+◌, ◌<◌, ◌==◌, suc, Bool, List, [], ◌∷◌, ◌++◌, length, map, slice_index_or, slice_set, if◌then◌else◌, Ok}
 use Rattle.machine.specs.declared.config.Watermarks.{Watermarks}
 use Rattle.machine.specs.declared.command.Actor.{Actor}
 use Rattle.machine.specs.declared.command.Command.{Command}
@@ -45,3 +45,7 @@ pub record Asked (marks : Watermarks) (who : Actor) (command : Command) (old new
   pub worker : WorkerOf
   pub answered : HasAnswered marks command (slice_index_or mid (place_of who mid) worker) worker said
   pub changed : new ≡ slice_set mid (place_of who mid) worker
+
+-- as many more passes were given out as there are more workers
+abbrev pub Counts : ℕ → List WorkerOf → ℕ → List WorkerOf → Type 0
+Counts given old given' new = given' + length old ≡ given + length new

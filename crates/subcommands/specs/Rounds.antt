@@ -1,5 +1,5 @@
 -- The rounds of a run on threads: words for its own functions. No public clause cites this.
-use Rattle.std.specs.Prelude.{◌≡◌, ◌≢◌, ℕ, ◌==◌, Bool, true, false, Result, Err, List, [], ◌∷◌, ◌++◌, Option, Contains, map, reverse, Ok}
+use Rattle.std.specs.Prelude.{◌≡◌, ◌≢◌, ℕ, ◌==◌, false, Result, Err, List, [], ◌∷◌, ◌++◌, length, Option, Contains, map, reverse, Ok, All}
 use Rattle.std.specs.Io.KnownBytes.{Appends}
 use Rattle.machine.specs.declared.config.Watermarks.{Watermarks}
 use Rattle.machine.specs.declared.command.Actor.{Actor}
@@ -14,10 +14,12 @@ use Rattle.book.specs.Passes.{PassOf}
 use Rattle.book.specs.declared.kept.Kept.{Kept}
 use Rattle.live.specs.Crews.{WorkerOf}
 use Rattle.live.specs.Works.{Repeated}
+use Rattle.live.specs.Matching.{has_share}
 use Rattle.live.specs.Reports.{IsLegal}
+use Rattle.live.specs.OneRun.{IsOneRun, WereGiven}
 use Rattle.trace.specs.declared.auditing.First.{First}
 use Rattle.subcommands.specs.declared.threads.Verdict.{Verdict}
-use Rattle.subcommands.specs.declared.threads.Verdict.TheVariants.{Fine, Wrong, Differ}
+use Rattle.subcommands.specs.declared.threads.Verdict.TheVariants.{Fine, Wrong}
 use Rattle.printer.specs.Prints.{texts}
 use Rattle.subcommands.specs.Threads.{Board, no_pass, pieces_of, Pieces, Concludes, verdict_line}
 use Rattle.scripts.specs.Work.{numbers_of}
@@ -33,11 +35,20 @@ abbrev pub IsApart : List ℕ → Type 0
 IsApart [] = Unit {0}
 IsApart (n ∷ ns) = NotAmong n ns × IsApart ns
 
+abbrev pub passes_in : List WorkerOf → List PassOf
+passes_in workers = map (λ (worker : WorkerOf). worker.pass) workers
+
+-- none of the passes has a ticket out
+abbrev pub AreAtRest : List PassOf → Type 0
+AreAtRest [] = Unit {0}
+AreAtRest (pass ∷ passes) = (has_share pass.kept ≡ false) × AreAtRest passes
+
 -- a worker for each row, whose pass keeps nothing yet
 pub record HiredAll (rows : List (Actor × List Command)) (workers : List WorkerOf) : Type 0 where
   pub jobs : jobs_of workers ≡ rows
   pub fresh : (who : Actor) → board_of workers who ≡ []
   pub apart : IsApart (numbers_of (jobs_of workers))
+  pub rest : AreAtRest (passes_in workers)
 
 -- these commands were done one after the other, by workers that were there or were hired behind those, and a writer got the answers
 pub record SetsUp (marks : Watermarks) (setup : List (Actor × Command)) (old new : List WorkerOf) (before after : Option (List ℕ)) : Type 0 where
@@ -46,6 +57,7 @@ pub record SetsUp (marks : Watermarks) (setup : List (Actor × Command)) (old ne
   pub more : List (Actor × List Command)
   pub jobs : jobs_of new ≡ jobs_of old ++ more
   pub apart : IsApart (numbers_of (jobs_of old)) → IsApart (numbers_of (jobs_of new))
+  pub rest : AreAtRest (passes_in old) → AreAtRest (passes_in new)
   pub prints : Appends before after (texts said)
 
 -- what each of the workers answered, one behind the other
@@ -59,8 +71,10 @@ pub record SaysRows (workers : List WorkerOf) (before after : Option (List ℕ))
   pub are : AnswersAre workers answers
   pub prints : Appends before after (texts answers)
 
-abbrev pub passes_in : List WorkerOf → List PassOf
-passes_in workers = map (λ (worker : WorkerOf). worker.pass) workers
+-- all passes that were given out, so many, are handed in, and none has a ticket out
+pub record AreHandedIn (given : ℕ) (passes : List PassOf) : Type 0 where
+  pub many : length passes ≡ given
+  pub rest : AreAtRest passes
 
 -- all but the trace of a run
 pub record Ran (marks : Watermarks) (setup : List (Actor × Command)) (work : List (Actor × List Command)) (passes : List PassOf) (before after : Option (List ℕ)) : Type 0 where
@@ -77,17 +91,18 @@ pub record Ran (marks : Watermarks) (setup : List (Actor × Command)) (work : Li
   pub all : (who : Actor) → last who ≢ [] → Contains actors who
   pub prints : Appends before after (texts set_up ++ texts answers)
 
--- the verdict, by whether the passes keep what the trace has, and by its audit
-abbrev pub verdict_by : Bool → Result (Unit {0}) First → Verdict
-verdict_by false audit = Differ
-verdict_by true (Ok done) = Fine
-verdict_by true (Err first) = Wrong first.entry
+-- the verdict, by the trace's audit
+abbrev pub verdict_by : Result (Unit {0}) First → Verdict
+verdict_by (Ok done) = Fine
+verdict_by (Err first) = Wrong first.entry
 
 -- the trace of a run was judged so, over these passes, and a writer got the line that says it
 pub record Concluded (opening : Opening) (passes : List PassOf) (verdict : Verdict) (before after : Option (List ℕ)) : Type 0 where
   pub entries : List Entry
   pub legal : IsLegal opening (reverse entries)
   pub numbered : Numbered (reverse entries)
+  pub one_run : IsOneRun opening entries passes
+  pub each : All (λ (pass : PassOf). WereGiven opening (reverse entries) pass.caller.worker pass.kept) passes
   pub concludes : Concludes verdict entries passes
   pub prints : Appends before after (verdict_line verdict)
 

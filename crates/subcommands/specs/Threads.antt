@@ -1,5 +1,5 @@
 -- What a run of a script on threads prints.
-use Rattle.std.specs.Prelude.{◌≡◌, ◌≢◌, ℕ, List, [], ◌∷◌, ◌++◌, length, Option, Contains, map, reverse, codes, decimal}
+use Rattle.std.specs.Prelude.{◌≡◌, ◌≢◌, ℕ, List, [], ◌∷◌, ◌++◌, length, Option, Contains, map, reverse, codes, decimal, All}
 use Rattle.std.specs.List.{sum_by}
 use Rattle.std.specs.Io.KnownBytes.{Appends}
 use Rattle.std.specs.Str.Lines.{lines}
@@ -23,12 +23,13 @@ use Rattle.book.specs.Passes.{PassOf, count_of}
 use Rattle.live.specs.Works.{Worked, Repeated}
 use Rattle.live.specs.Matching.{Matches}
 use Rattle.live.specs.Reports.{IsLegal}
+use Rattle.live.specs.OneRun.{IsOneRun, WereGiven}
 use Rattle.scripts.specs.declared.mode.Mode.TheVariants.{Run}
 use Rattle.scripts.specs.Header.{config_of}
 use Rattle.scripts.specs.Script.{items_of, IsFaultless}
 use Rattle.scripts.specs.Work.{setup_of, worked, work_of}
 use Rattle.subcommands.specs.declared.threads.Verdict.{Verdict}
-use Rattle.subcommands.specs.declared.threads.Verdict.TheVariants.{Fine, Wrong, Differ}
+use Rattle.subcommands.specs.declared.threads.Verdict.TheVariants.{Fine, Wrong}
 use Rattle.printer.specs.Prints.{texts}
 
 -- by actor, what its pass keeps
@@ -75,6 +76,10 @@ pub record RunOnThreads (config : Config) (setup work : List (Actor × List Comm
   pub entries : List Entry
   pub legal : IsLegal (opening_of config) (reverse entries)
   pub numbered : Numbered (reverse entries)
+  -- one run of the machine gave each pass all that it keeps, in order, and left these entries
+  pub one_run : IsOneRun (opening_of config) entries passes
+  -- so each thing that a pass keeps, a refusal or a path too, is what the machine gave at a beginning of these entries
+  pub each : All (λ (pass : PassOf). WereGiven (opening_of config) (reverse entries) pass.caller.worker pass.kept) passes
 
 -- the passes keep just what the trace has, all of it is of their workers, and no transfer is in flight. (Excludes the trace of another run.)
 pub record Agree (entries : List Entry) (passes : List PassOf) : Type 0 where
@@ -82,24 +87,20 @@ pub record Agree (entries : List Entry) (passes : List PassOf) : Type 0 where
   pub all : length entries ≡ sum_by (λ (pass : PassOf). count_of pass.kept) passes
   pub at_rest : transfers_begun (reverse entries) ≡ transfers_ended (reverse entries)
 
--- what a verdict says of the trace and of the passes. They agree, and an audit finds nothing wrong in the trace; or its first wrong entry is this one.
--- Where they don't, no more is said
+-- what a verdict says of the trace and of the passes. They agree, and an audit finds nothing wrong in the trace; or its first wrong entry is this one
 abbrev pub Concludes : Verdict → List Entry → List PassOf → Type 0
 Concludes Fine entries passes = Agree entries passes × Passes (first_of (reverse entries)) (reverse entries)
 Concludes (Wrong entry) entries passes = Agree entries passes × IsFirstWrong entries entry
-Concludes Differ entries passes = Unit {0}
 
 -- the line that says it
 abbrev pub verdict_line : Verdict → List ℕ
 verdict_line Fine = line (codes "audit ok")
 verdict_line (Wrong entry) = line (codes "audit failed at entry " ++ decimal entry)
-verdict_line Differ = line (codes "replies differ")
 
 -- the exit status that tells it
 abbrev pub status_by : Verdict → ℕ
 status_by Fine = 0
 status_by (Wrong entry) = 1
-status_by Differ = 1
 
 -- a writer got what a run prints: its answers, those before `go` first, and the line of this verdict, and nothing else
 pub record PrintsThreads (config : Config) (setup : List (Actor × Command)) (work : List (Actor × List Command)) (verdict : Verdict) (old new : Option (List ℕ)) : Type 0 where

@@ -1,6 +1,9 @@
 //! Whether a script answers what it expects.
 
-ghost use Rattle.std.specs.Prelude.{◌≡◌, ◌≤◌, [], false, IfSome, IfOk, IfErr};
+ghost use Rattle.std.specs.Prelude.{◌≡◌, ◌≤◌, [], false, IfSome, IfOk, IfErr, OnOk};
+ghost use Rattle.std.specs.Str.Lines.{lines};
+ghost use Rattle.scripts.specs.declared.mode.Mode.TheVariants.{Schedule};
+ghost use Rattle.scripts.specs.Script.{IsFaultless};
 ghost use Rattle.expectations.specs.Expected.{expected_of};
 ghost use Rattle.printer.specs.Asked.{marks_lines, plain_as};
 ghost use Rattle.subcommands.specs.Scripts.{PrintsScript};
@@ -106,6 +109,8 @@ pub fn check_script<O: Write>(
 ) -> Result<Checked, Fault>
     // It is met only where the answers of the plain machine print exactly what the script expects.
     ensures met { IfOk result (λ checked. checked ≡ Checked.Met → PrintsScript (plain_as placement) script.now (Some []) (Some (expected_of script.now))) }
+    // It is met or differs only if no line of it is faulty.
+    ensures ran { OnOk result (IsFaultless Schedule (lines script.now)) }
     ensures why { IfErr result (Explains (plain_as placement) [] script.now) }
 {
     let Answers { output, numbers } = answers_of(alloc, placement, script)?;

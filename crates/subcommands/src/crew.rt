@@ -1,7 +1,7 @@
 //! The workers of a run on threads.
 
-ghost use Rattle.std.specs.Prelude.{◌≡◌, ◌⊎◌, ◌<◌, ◌≤◌, ◌++◌, ◌∷◌, [], Ok, length, take, drop, IfSome, IfNone, IfOk, OnOk};
-ghost use Rattle.subcommands.specs.Crews.{numbers_at, place_of, Hires, Asked};
+ghost use Rattle.std.specs.Prelude.{◌≡◌, ◌⊎◌, ◌<◌, ◌≤◌, ◌++◌, ◌∷◌, [], Ok, length, take, drop, IfSome, IfNone, IfOk, ◌+◌, OnOk};
+ghost use Rattle.subcommands.specs.Crews.{numbers_at, place_of, Hires, Asked, Counts};
 
 use block_store::SharedDevice;
 use indexmap::IndexSet;
@@ -84,7 +84,8 @@ impl<L: Opened> Crew<L> {
         commands: Vec<Command>,
     ) -> Result<(), AllocError>
         requires { place_of actor self.old.workers.items ≡ length self.old.workers.items }
-        ensures { OnOk result (Hires actor commands.items self.old.workers.items self.new.workers.items) }
+        ensures hired { OnOk result (Hires actor commands.items self.old.workers.items self.new.workers.items) }
+        ensures counted { OnOk result (Counts roll.old.given self.old.workers.items roll.new.given self.new.workers.items) }
     {
         let pass = new_pass(rt, live, roll)?;
         self.add(actor, Worker::new(alloc, actor, pass, commands))
@@ -101,6 +102,7 @@ impl<L: Opened> Crew<L> {
     ) -> Result<usize, AllocError>
         ensures placed { IfOk result (λ place. (place ≡ place_of actor self.new.workers.items) × (place < length self.new.workers.items)) }
         ensures hired { OnOk result ((self.new.workers.items ≡ self.old.workers.items) ⊎ Hires actor [] self.old.workers.items self.new.workers.items) }
+        ensures counted { OnOk result (Counts roll.old.given self.old.workers.items roll.new.given self.new.workers.items) }
     {
         if let Some(place) = self.find(actor) {
             return Ok(place);
@@ -120,7 +122,8 @@ impl<L: Opened> Crew<L> {
         actor: Actor,
         command: Command,
     ) -> Result<Vec<Reply>, AllocError>
-        ensures { IfOk result (λ answers. Asked L.opening.watermarks actor command self.old.workers.items self.new.workers.items answers.items) }
+        ensures asked { IfOk result (λ answers. Asked L.opening.watermarks actor command self.old.workers.items self.new.workers.items answers.items) }
+        ensures counted { OnOk result (Counts roll.old.given self.old.workers.items roll.new.given self.new.workers.items) }
     {
         let place = self.place(rt, alloc, live, roll, actor)?;
         match self.workers[place].answer(rt, live, command) {
@@ -136,7 +139,8 @@ pub fn new_pass<L: Opened, D: SharedDevice, R: Wait>(
     live: &Live<L, D>,
     roll: &mut Roll<L>,
 ) -> Result<Pass<L>, AllocError>
-    ensures { IfOk result (λ pass. pass.kept ≡ []) }
+    ensures kept { IfOk result (λ pass. pass.kept ≡ []) }
+    ensures counted { OnOk result (roll.new.given ≡ roll.old.given + 1) }
 {
     match live.pass(rt, roll) {
         Ok(pass) => Ok(pass),

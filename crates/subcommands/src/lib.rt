@@ -226,7 +226,8 @@ pub(crate) fn faulty(
 
 /// Shows that a script is being read, where it is to be shown how far a run has come.
 fn show_reading<E: Write>(options: Options, err: &mut E)
-    ensures { speaks options ≡ false → E.contents err.new ≡ E.contents err.old }
+    ensures quiet { speaks options ≡ false → E.contents err.new ≡ E.contents err.old }
+    ensures unshown { options.progress ≡ false → E.contents err.new ≡ E.contents err.old }
 {
     if options.progress {
         // Nothing hangs on it.
@@ -236,7 +237,8 @@ fn show_reading<E: Write>(options: Options, err: &mut E)
 
 /// Takes that back.
 fn hide_reading<E: Write>(options: Options, err: &mut E)
-    ensures { speaks options ≡ false → E.contents err.new ≡ E.contents err.old }
+    ensures quiet { speaks options ≡ false → E.contents err.new ≡ E.contents err.old }
+    ensures unshown { options.progress ≡ false → E.contents err.new ≡ E.contents err.old }
 {
     if options.progress {
         let _ = err.write_all(ERASE);
@@ -264,6 +266,8 @@ pub fn run_script<O: Write, E: Write>(
     ensures why { IfErr result (Explains options file.now script.now) }
     // It is the script's only where nothing was run.
     ensures unrun { IfErr result (λ why. IsOfScript why → O.contents out.new ≡ O.contents out.old) }
+    // Then nothing was said before it, except how far reading had come.
+    ensures unsaid { IfErr result (λ why. IsOfScript why → options.progress ≡ false → E.contents err.new ≡ E.contents err.old) }
     // It is of a line that was refused only where the run ended there.
     ensures refused { IfErr result (λ why. IsRefused why → marks_lines options ≡ false → EndsScript options script.now (O.contents out.old) (O.contents out.new)) }
     ensures quiet { speaks options ≡ false → E.contents err.new ≡ E.contents err.old }

@@ -15,14 +15,15 @@ ghost use Rattle.printer.specs.Asked.{plain};
 ghost use Rattle.printer.specs.Prints.{texts};
 ghost use Rattle.subcommands.specs.Told.{IsUnread, ExplainsIn, IsOfScript, StartsReport, IsRunFault};
 ghost use Rattle.subcommands.specs.Threads.{verdict_line, status_by, PrintsThreads, PrintsScriptOnThreads};
-ghost use Rattle.subcommands.specs.Rounds.{verdict_by, HiredAll, SetsUp, SaysRows, passes_in, Ran, Concluded, RanAll};
+ghost use Rattle.subcommands.specs.Rounds.{verdict_by, HiredAll, SetsUp, SaysRows, passes_in, AreHandedIn, Ran, Concluded, RanAll};
+ghost use Rattle.subcommands.specs.Crews.{Counts};
 
 use crate::crew::{Crew, new_pass};
 use crate::device::new_device;
 use crate::fault::{Fault, Wanted};
 use crate::{faulty, read_script, status_of, unwritten};
 use block_store::{Locked, MemDevice, SharedDevice};
-use live::{Live, Opened, Pass, Report, Roll, Unfinished, Unnamed, Worker, work_together};
+use live::{Live, Opened, Pass, Report, Roll, Unnamed, Worker, work_together};
 use machine::command::{Actor, Command, Reply};
 use machine::config::Config;
 use printer::{Options, write_bytes};
@@ -43,17 +44,12 @@ pub enum Verdict {
     Fine,
     /// An audit finds something wrong, first at the entry of this place, counted from 1.
     Wrong(usize),
-    /// A worker was told something else than the trace has of it.
-    Differ,
 }
 
 /// The verdict on a run.
 fn verdict_of(report: &Report) -> Verdict
-    ensures { result ≡ verdict_by report.now.replies_match report.now.audit }
+    ensures { result ≡ verdict_by report.now.audit }
 {
-    if !report.replies_match {
-        return Verdict::Differ;
-    }
     match &report.audit {
         Ok(()) => Verdict::Fine,
         Err(first) => Verdict::Wrong(first.entry),
@@ -66,7 +62,6 @@ fn tell<O: Write>(alloc: Global, verdict: Verdict, out: &mut O) -> io::Result<()
 {
     match verdict {
         Verdict::Fine => write_bytes(out, b"audit ok\n"),
-        Verdict::Differ => write_bytes(out, b"replies differ\n"),
         Verdict::Wrong(entry) => {
             let text = format!(in alloc; "audit failed at entry {entry}\n")?;
             write_bytes(out, text.as_bytes())
@@ -103,7 +98,8 @@ fn hire_all<L: Opened, D: SharedDevice, R: Wait>(
     work: Vec<(Actor, Vec<Command>)>,
 ) -> Result<Crew<L>, AllocError>
     requires { IsStrictlyIncreasing (numbers_of (shown_rows work.items)) }
-    ensures { IfOk result (λ crew. HiredAll (shown_rows work.items) crew.workers.items) }
+    ensures hired { IfOk result (λ crew. HiredAll (shown_rows work.items) crew.workers.items) }
+    ensures counted { IfOk result (λ crew. Counts roll.old.given [] roll.new.given crew.workers.items) }
 {
     let mut crew = Crew::new(alloc);
     for (actor, commands) in work {
@@ -125,6 +121,7 @@ fn set_up_one<L: Opened, D: SharedDevice, R: Wait, O: Write>(
     out: &mut O,
 ) -> Result<(), Fault>
     ensures whole { OnOk result (SetsUp L.opening.watermarks ((actor, command) ∷ []) crew.old.workers.items crew.new.workers.items (O.contents out.old) (O.contents out.new)) }
+    ensures counted { OnOk result (Counts roll.old.given crew.old.workers.items roll.new.given crew.new.workers.items) }
     ensures why { IfErr result IsRunFault }
 {
     match crew.ask(rt, alloc, live, roll, actor, command) {
@@ -148,6 +145,7 @@ fn set_up<L: Opened, D: SharedDevice, R: Wait, O: Write>(
     out: &mut O,
 ) -> Result<(), Fault>
     ensures whole { OnOk result (SetsUp L.opening.watermarks setup.items crew.old.workers.items crew.new.workers.items (O.contents out.old) (O.contents out.new)) }
+    ensures counted { OnOk result (Counts roll.old.given crew.old.workers.items roll.new.given crew.new.workers.items) }
     ensures why { IfErr result IsRunFault }
 {
     for (actor, command) in setup {
@@ -232,8 +230,10 @@ fn work_all<L: Opened + Send + Sync, D: SharedDevice + Sync, R: Threads + Wait +
     work: Vec<(Actor, Vec<Command>)>,
     out: &mut O,
 ) -> Result<Vec<Pass<L>>, Fault>
-    requires { IsStrictlyIncreasing (numbers_of (shown_rows work.items)) }
+    requires rows { IsStrictlyIncreasing (numbers_of (shown_rows work.items)) }
+    requires fresh { roll.old.given ≡ 0 }
     ensures whole { IfOk result (λ passes. Ran L.opening.watermarks setup.items (shown_rows work.items) passes.items (O.contents out.old) (O.contents out.new)) }
+    ensures handed_in { IfOk result (λ passes. AreHandedIn roll.new.given passes.items) }
     ensures why { IfErr result IsRunFault }
 {
     let Ok(mut crew) = hire_all(rt, alloc, live, roll, work) else {
@@ -280,15 +280,15 @@ fn conclude<L: Opened, D: SharedDevice + Drop, O: Write>(
     roll: Roll<L>,
     out: &mut O,
 ) -> Result<Verdict, Fault>
+    requires { AreHandedIn roll.given passes.items }
     ensures whole { IfOk result (λ verdict. Concluded L.opening passes.items verdict (O.contents out.old) (O.contents out.new)) }
     ensures why { IfErr result IsRunFault }
 {
     match live.finish(passes, roll) {
         Ok(report) => say(alloc, wanted, verdict_of(&report), out),
-        // All passes are there, and no worker ends with a ticket out.
-        Err((live, _passes, Unfinished::PassMissing(_), roll)) => {
+        Err((live, _passes, _cause, roll)) => {
             live.give_up(roll);
-            say(alloc, wanted, Verdict::Differ, out)
+            unreachable!()
         }
     }
 }
@@ -309,7 +309,8 @@ fn run_live<
     work: Vec<(Actor, Vec<Command>)>,
     out: &mut O,
 ) -> Result<Verdict, Fault>
-    requires { IsStrictlyIncreasing (numbers_of (shown_rows work.items)) }
+    requires rows { IsStrictlyIncreasing (numbers_of (shown_rows work.items)) }
+    requires fresh { roll.given ≡ 0 }
     ensures whole { IfOk result (λ verdict. RanAll L.opening setup.items (shown_rows work.items) verdict (O.contents out.old) (O.contents out.new)) }
     ensures why { IfErr result IsRunFault }
 {
@@ -436,7 +437,7 @@ pub fn status_of_run<E: Write>(ran: Result<Verdict, Fault>, err: &mut E) -> u8
 {
     match ran {
         Ok(Verdict::Fine) => 0,
-        Ok(Verdict::Wrong(_) | Verdict::Differ) => FAILED,
+        Ok(Verdict::Wrong(_)) => FAILED,
         Err(fault) => status_of(Err(fault), err),
     }
 }

@@ -31,14 +31,15 @@ func schedule(script []byte) (string, error) {
 	if len(script) > 0 {
 		first = (*C.uint8_t)(unsafe.Pointer(&script[0]))
 	}
-	asked := C.struct_memcgrun_asked{labels: true}
-	switch C.memcgrun_schedule(first, C.size_t(len(script)), asked, &out, &err) {
+	// Every default is 0.
+	options := C.struct_memcgrun_options{size: C.sizeof_struct_memcgrun_options, labels: true}
+	switch C.memcgrun_schedule(first, C.size_t(len(script)), &options, &out, &err) {
 	case C.MEMCGRUN_OK:
 		return text(out), nil
-	case C.MEMCGRUN_FAILED:
-		return text(out), fmt.Errorf("%s", text(err))
+	case C.MEMCGRUN_NO_MEMORY:
+		return "", fmt.Errorf("not enough memory\n")
 	default:
-		return "", fmt.Errorf("no memory")
+		return "", fmt.Errorf("%s", text(err))
 	}
 }
 

@@ -1,6 +1,5 @@
 use Rattle.std.proofs.Common.{◌≡◌, ℕ, List, ap, subst, ◌∙◌}
 use Rattle.machine.specs.State.{blocks_of}
-use Rattle.machine.specs.declared.command.Step.{Step}
 use Rattle.block_store.specs.Device.{Disk, new_disk}
 use Rattle.printer.specs.Prints.{PrintsStart, EndsRun}
 use Rattle.printer.proofs.ResultLemmas.{err_more}

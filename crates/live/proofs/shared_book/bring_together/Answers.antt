@@ -3,7 +3,7 @@ use Rattle.live.specs.declared.history.Row.{Row}
 use Rattle.live.specs.declared.history.View.{View}
 use Rattle.live.specs.Logs.{EndingOf}
 use Rattle.live.specs.Rules.{row, joined}
-use Rattle.live.specs.OneRun.{rows_of}
+use Rattle.live.specs.Shared.{rows_of}
 use Rattle.live.proofs.EndLemmas.{joined-rows, rows-moved}
 use Rattle.live.proofs.shared_book.bring_together.Goals as goal
 

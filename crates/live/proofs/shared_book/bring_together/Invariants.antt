@@ -1,5 +1,5 @@
 use Rattle.std.proofs.Common.{◌≡◌, ◌++◌}
-use Rattle.live.specs.OneRun.{rows_of}
+use Rattle.live.specs.Shared.{rows_of}
 use Rattle.live.proofs.shared_book.bring_together.Given as goal
 
 abbrev pub invariant-loop-pass : goal.invariant-loop-pass

@@ -1,8 +1,12 @@
-use Rattle.subcommands.proofs.EndLemmas.{concluded}
+use Rattle.subcommands.proofs.EndLemmas.{concluded, none_missing}
 use Rattle.subcommands.proofs.threads.conclude.Goals as goal
 
-pub returns-in-Ok-clause-whole : goal.returns-in-Ok-clause-whole
-returns-in-Ok-clause-whole g c =
+pub returns-clause-whole : goal.returns-clause-whole
+returns-clause-whole g c =
     let report = c.in-Ok.report in
     let said = c.in-Ok.ensures in
-    concluded _ report.trace.entries c.args.passes.items report.replies_match report.audit c.verdict_of.result c.say.result _ _ said.legal said.numbered said.matches said.entries said.at_rest said.audited.0 said.first c.verdict_of.ensures c.say.ensures.whole
+    concluded report.trace.entries c.args.passes.items report.audit (record { matches = rw said.always at said.matches; all = said.entries; at_rest = said.at_rest said.always }) said.audited.0 said.first
+    _ c.verdict_of.result c.say.result _ _ said.legal said.numbered said.one_run said.each c.verdict_of.ensures c.say.ensures.whole
+
+pub unreachable-requires : goal.unreachable-requires
+unreachable-requires g c = none_missing _ c.args.passes.items c.in-Err._cause c.requires c.in-Err.ensures.missing c.in-Err.ensures.given

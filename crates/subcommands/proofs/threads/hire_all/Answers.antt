@@ -7,6 +7,7 @@ use Rattle.machine.specs.declared.command.Command.{Command}
 use Rattle.subcommands.specs.Rounds.{HiredAll}
 use Rattle.subcommands.proofs.RisingLemmas.{Row, next_is_new}
 use Rattle.subcommands.proofs.RoundLemmas.{hired-push}
+use Rattle.subcommands.proofs.HandedLemmas.{counts-both}
 use Rattle.subcommands.proofs.threads.hire_all.Goals as goal
 
 pub hire-requires : goal.hire-requires
@@ -17,10 +18,13 @@ hire-requires g c =
     let source = YieldsList-from_vec c.args.work.items c.into_iter-actor-iterator.ensures.into_iter_gives.0 len in
     let turn = YieldsList-turn source c.loop-actor.yielded c.loop-actor.actor-iterator c.loop-actor.yielded_by c.next.result c.next.new.self (c.in-Some.actor, c.in-Some.commands) c.in-Some.is c.next.ensures.steps in
     let so_far = YieldsList-so_far source c.loop-actor.yielded c.loop-actor.actor-iterator c.loop-actor.yielded_by in
-    next_is_new c.args.work.items c.loop-actor.yielded (c.in-Some.actor, c.in-Some.commands) c.loop-actor.crew.workers.items c.requires turn.0 turn.1 so_far c.loop-actor.invariant.jobs
+    next_is_new c.args.work.items c.loop-actor.yielded (c.in-Some.actor, c.in-Some.commands) c.loop-actor.crew.workers.items c.requires turn.0 turn.1 so_far c.loop-actor.invariant.0.jobs
 
 pub loop-actor-preserved : goal.loop-actor-preserved
 loop-actor-preserved g c =
     let row : Row = (c.in-Some.actor, c.in-Some.commands) in
-    subst (λ (rows : List (Actor × List Command)). HiredAll rows c.hire.new.self.workers.items) (sym (map-append (λ (r : Row). (r.0, r.1.items)) c.loop-actor.yielded (row ∷ [])))
-    (hired-push _ c.in-Some.actor c.in-Some.commands.items c.loop-actor.crew.workers.items c.hire.new.self.workers.items c.loop-actor.invariant c.in_ok-hire.ensures)
+    (
+      subst (λ (rows : List (Actor × List Command)). HiredAll rows c.hire.new.self.workers.items) (sym (map-append (λ (r : Row). (r.0, r.1.items)) c.loop-actor.yielded (row ∷ [])))
+      (hired-push _ c.in-Some.actor c.in-Some.commands.items c.loop-actor.crew.workers.items c.hire.new.self.workers.items c.loop-actor.invariant.0 c.in_ok-hire.ensures.hired),
+      counts-both _ _ _ [] c.loop-actor.crew.workers.items c.hire.new.self.workers.items c.loop-actor.invariant.1 c.in_ok-hire.ensures.counted,
+    )

@@ -1,6 +1,6 @@
-use Rattle.std.proofs.Common.{◌≡◌, ℕ, Bool, false, List, sym, ap, subst, ◌∙◌}
+use Rattle.std.proofs.Common.{Bool, sym, ap, subst, ◌∙◌}
 use Rattle.book.specs.Passes.{PassOf}
-use Rattle.turns.specs.Tickets.{is_ending, holds_after, gives_ticket}
+use Rattle.turns.specs.Tickets.{is_ending}
 use Rattle.live.specs.Shares.{one_if, Carries}
 use Rattle.live.proofs.ShareLemmas.{carries-call, ends-none}
 use Rattle.live.proofs.ResultLemmas.{if_ok, on_err}

@@ -1,4 +1,4 @@
-use Rattle.std.proofs.Common.{◌≡◌, refl}
+use Rattle.std.proofs.Common.{refl}
 use Rattle.live.proofs.RowLemmas.{done_none}
 use Rattle.live.proofs.live.Live.balance.Goals as goal
 

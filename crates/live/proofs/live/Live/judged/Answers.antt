@@ -1,4 +1,4 @@
-use Rattle.std.proofs.Common.{rules, ◌≡◌, [], ◌∷◌, refl, sym, append-nil}
+use Rattle.std.proofs.Common.{[], refl, sym, append-nil}
 use Rattle.machine.specs.declared.command.Answer.TheVariants as answer
 use Rattle.machine.specs.declared.command.Word.TheVariants as word
 use Rattle.turns.specs.Turns.{answer_by}

@@ -1,4 +1,4 @@
-use Rattle.std.proofs.Common.{rules, ◌≡◌, [], ◌∷◌, ◌++◌, ap, ◌∙◌}
+use Rattle.std.proofs.Common.{[], ◌∷◌, ◌++◌, ap, ◌∙◌}
 use Rattle.machine.specs.declared.command.Reply.{Reply as Told_by}
 use Rattle.live.proofs.RowLemmas.{did_none, did_judged}
 use Rattle.live.proofs.ShareLemmas.{carries-looked, carries-both}

@@ -1,4 +1,4 @@
-use Rattle.std.proofs.Common.{◌≡◌, refl, ap, Ok, Err}
+use Rattle.std.proofs.Common.{refl, ap, Ok, Err}
 use Rattle.turns.specs.declared.turn.Stage.TheVariants as stage
 use Rattle.turns.specs.declared.turn.Transition.TheVariants as transition
 use Rattle.pages.specs.Tickets.{TicketOf}

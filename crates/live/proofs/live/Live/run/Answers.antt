@@ -1,4 +1,4 @@
-use Rattle.std.proofs.Common.{rules, ◌≡◌}
+use Rattle.std.proofs.Common.{rules}
 use Rattle.live.proofs.RowLemmas.{under_more, under_closed}
 use Rattle.live.proofs.ShareLemmas.{carries-both}
 use Rattle.live.proofs.live.Live.run.Goals as goal
@@ -9,6 +9,7 @@ loop-turn-preserved g c = record {
   finite = tt;
   under = under_more _ _ _ _ _ _ _ _ _ _ _ c.loop-turn.invariant.under c.in-Some-step.ensures.goes;
   own = c.in-Some-step.ensures.own;
+  hand = c.in-Some-step.ensures.hand;
   caller = search rules;
   held = c.in-Some-step.ensures.held;
   space = c.in-Some-step.ensures.space;

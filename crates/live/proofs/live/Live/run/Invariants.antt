@@ -1,6 +1,7 @@
 use Rattle.std.proofs.Common.{◌≡◌, ◌+◌, ◌<◌, true, vec_len, vec_capacity}
 use Rattle.turns.specs.Tickets.{blocks_in, holds, OwnStage}
 use Rattle.live.specs.Shares.{one_if, Carries}
+use Rattle.live.specs.Hands.{HasStage}
 use Rattle.live.specs.Runs.{Under}
 use Rattle.live.proofs.live.Live.run.Given as goal
 
@@ -10,6 +11,7 @@ invariant-loop-turn g l = record {
   finite : (goal.iterator-loop-turn g).is_finite l._turn-iterator;
   under : Under g.L.Opened.opening.watermarks l.actor l.initial.stage l.fn.pass.kept l.pass.kept l.fn.answers.items l.answers.items l.stage;
   own : OwnStage l.pass.caller.worker (blocks_in g.L.Opened.opening) l.stage;
+  hand : HasStage l.pass.kept l.stage;
   caller : l.pass.caller ≡ l.fn.pass.caller;
   held : holds l.stage ≡ true → (0 < l.pass.room) × (vec_len l.answers + l.spare + 1 < vec_capacity l.answers);
   space : vec_len l.answers + l.spare < vec_capacity l.answers;

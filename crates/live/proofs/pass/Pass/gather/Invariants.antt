@@ -1,5 +1,5 @@
 use Rattle.std.specs.Prelude.{◌≡◌}
-use Rattle.live.specs.OneRun.{Gathers}
+use Rattle.live.specs.Shared.{Gathers}
 use Rattle.live.proofs.pass.Pass.gather.Given as goal
 
 -- the pass is as it was, and the book but for marks that were merged

@@ -6,7 +6,7 @@ use Rattle.turns.specs.Turns.{paths_of}
 use Rattle.turns.specs.Finds.{looking}
 use Rattle.live.specs.Told.{telling}
 use Rattle.live.specs.Rules.{kept_in}
-use Rattle.live.specs.OneRun.{found_in}
+use Rattle.live.specs.Shared.{found_in}
 use Rattle.live.proofs.RowLemmas.{looked, looking-kept, looking-caller}
 use Rattle.live.proofs.SharedLemmas.{noted-finds}
 use Rattle.live.proofs.pass.Pass.judge.Goals as goal

@@ -1,5 +1,6 @@
 use Rattle.std.proofs.Common.{rules, ◌≡◌, ◌∙◌, subst}
 use Rattle.machine.specs.State.{Opening}
+use Rattle.machine.specs.Legal.{Legal}
 use Rattle.book.specs.Events.{event_of, reply_of}
 use Rattle.turns.specs.Tickets.{blocks_in, OwnReply}
 use Rattle.turns.proofs.TicketLemmas.{gives_own}
@@ -15,10 +16,12 @@ returns-clause-own g c =
     let opened : past.state.opening ≡ g.L.Opened.opening =
     opened-so g.L.Opened.table g.L.Opened.opening c.self.inside.book c.self.inside.log shared c.args.pass.now told.known told.given (event_of c.args.event) (reply_of c.ask-reply.result) past told.called ∙ shared.opened in
     let Own : Opening → Type 0 = λ o. OwnReply worker (blocks_in o) c.ask-reply.result in
-    subst Own opened (gives_own past worker c.history_is_right.ensures.legal c.ask-reply.result told.gives)
+    subst Own opened (gives_own past worker c.history_is_right-2.ensures.legal c.ask-reply.result told.gives)
 
 pub invariant_of-self : goal.invariant_of-self
 invariant_of-self g c =
     let told = c.ask-reply.ensures in
-    shared-call g.L.Opened.table g.L.Opened.opening c.self.inside.book c.self.inside.log c.self.invariant c.args.pass.now told.known told.given (event_of c.args.event) (reply_of c.ask-reply.result) c.ask-reply.new.book c.ask-reply.new.log
-    (search rules) told.called told.passes told.log
+    let past = c.self.inside.book in
+    let legal = subst (λ (o : Opening). Legal o past.history past.state) c.self.invariant.opened c.history_is_right.ensures.legal in
+    shared-call g.L.Opened.table g.L.Opened.opening past c.self.inside.log c.self.invariant c.args.pass.now told.known told.given (event_of c.args.event) c.ask-reply.result c.ask-reply.new.book c.ask-reply.new.log
+    (search rules) told.called told.passes told.log legal told.gives

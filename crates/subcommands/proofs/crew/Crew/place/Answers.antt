@@ -4,7 +4,7 @@ use Rattle.subcommands.proofs.crew.Crew.place.Goals as goal
 
 pub returns-clause-placed : goal.returns-clause-placed
 returns-clause-placed g c =
-    let there = hires-place c.args.actor _ c.args.self.now.workers.items c.hire.new.self.workers.items c.in_ok-hire.ensures in
+    let there = hires-place c.args.actor _ c.args.self.now.workers.items c.hire.new.self.workers.items c.in_ok-hire.ensures.hired in
     let ok = c.args.self.now.workers.ok.0 in
     let read = c.len-place.ensures in
     let len : c.len-place.result ≡ length c.args.self.now.workers.items = omega (arith, ok, read) in

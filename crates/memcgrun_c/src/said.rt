@@ -1,0 +1,82 @@
+//! What is said beside the answers.
+
+ghost use Rattle.std.specs.Prelude.{◌≡◌, ◌≢◌, ◌⊎◌, [], Some};
+ghost use Rattle.std.specs.Io.KnownBytes.{Appends};
+ghost use Rattle.memcgrun_c.specs.declared.status.TheConstants.{NO_MEMORY};
+ghost use Rattle.memcgrun_c.specs.Calls.{status_by};
+ghost use Rattle.subcommands.specs.Told.{AllTold, StartsReport};
+
+use crate::status::{BAD_SCRIPT, NO_MEMORY, REFUSED};
+use scripts::ScriptFault;
+use std::alloc::Global;
+use std::io;
+use std::io::Write;
+use subcommands::Fault;
+
+/// What is said beside the answers. A run goes on if some of it can't be kept, so this remembers that.
+#[derive(Drop)]
+pub struct Said {
+    pub bytes: Vec<u8>,
+    /// There was no memory for some of it.
+    pub is_cut: bool,
+}
+
+impl Said {
+    pub fn new(alloc: Global) -> Said
+        ensures { result.bytes.items ≡ [] }
+    {
+        Said {
+            bytes: Vec::new(alloc),
+            is_cut: false,
+        }
+    }
+}
+
+impl Write for Said {
+    ghost use Rattle.std.specs.Prelude.{Some};
+
+    ghost contents = { λ s. Some s.bytes.items };
+
+    fn write(&mut self, buf: &[u8]) -> io::Result<usize> {
+        let written = self.bytes.write(buf);
+        if written.is_err() {
+            self.is_cut = true;
+        }
+        written
+    }
+
+    fn flush(&mut self) -> io::Result<()> {
+        Ok(())
+    }
+}
+
+/// The status of a fault.
+fn status_by(why: &Fault) -> u8
+    ensures { result ≡ status_by why.now }
+{
+    match why {
+        Fault::TooLong
+        | Fault::Script(ScriptFault::At { .. })
+        | Fault::Placed(ScriptFault::At { .. }, _) => BAD_SCRIPT,
+        Fault::Refused(_) => REFUSED,
+        // What can't be written here can't be kept.
+        Fault::Unreadable(_)
+        | Fault::Script(ScriptFault::Memory)
+        | Fault::Placed(ScriptFault::Memory, _)
+        | Fault::Memory(_)
+        | Fault::Unwritable(_) => NO_MEMORY,
+    }
+}
+
+/// Adds the lines that say why a script was not run to its end, and gives the status of that. If something that was to be said
+/// could not be kept, the status says so.
+pub fn tell(why: &Fault, said: &mut Said) -> u8
+    ensures either { (result ≡ status_by why.now) ⊎ (result ≡ NO_MEMORY) }
+    ensures whole { result ≢ NO_MEMORY → AllTold (Appends (Some said.old.bytes.items) (Some said.new.bytes.items)) why.now }
+    ensures start { StartsReport why.now (Some said.old.bytes.items) (Some said.new.bytes.items) }
+{
+    match why.report(said) {
+        Ok(()) if !said.is_cut => status_by(why),
+        _ => NO_MEMORY,
+    }
+}

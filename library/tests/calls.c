@@ -1,0 +1,368 @@
+/* calls: what options ask for, what each status means, which options are refused, buffers that are short or null, and each allocation failing in turn. It says
+ * nothing and ends with 0, or names each check that fails and ends with 1. It is linked with --wrap=malloc and --wrap=realloc. */
+#include <memcgrun.h>
+
+#include <stdio.h>
+#include <stdlib.h>
+#include <string.h>
+
+static int failed;
+
+static void check_at(int line, bool holds, const char *what)
+{
+    if (holds)
+        return;
+    fprintf(stderr, "calls.c:%d: %s\n", line, what);
+    failed = 1;
+}
+
+#define CHECK(what) check_at(__LINE__, what, #what)
+
+/* ---- memory that fails */
+
+void *__real_malloc(size_t n);
+void *__real_realloc(void *p, size_t n);
+void *__wrap_malloc(size_t n);
+void *__wrap_realloc(void *p, size_t n);
+
+/* The first allocations succeed, as many as this, and the next fails: that one alone, or all from it on. */
+static long left = -1;
+static bool for_good;
+
+static bool fails(void)
+{
+    if (left < 0)
+        return false;
+    if (left > 0) {
+        left--;
+        return false;
+    }
+    if (!for_good)
+        left = -1;
+    return true;
+}
+
+void *__wrap_malloc(size_t n)
+{
+    return fails() ? NULL : __real_malloc(n);
+}
+
+void *__wrap_realloc(void *p, size_t n)
+{
+    return fails() ? NULL : __real_realloc(p, n);
+}
+
+/* ---- calls */
+
+enum kind { SCHEDULE, PICTURE, TABLE, CHECKED };
+
+struct answer {
+    enum memcgrun_status status;
+    struct memcgrun_text out, err;
+};
+
+static struct answer bytes_ask(enum kind kind, const uint8_t *script, size_t len, const struct memcgrun_options *options)
+{
+    struct answer answer;
+    answer.status = kind == SCHEDULE ? memcgrun_schedule(script, len, options, &answer.out, &answer.err)
+        : kind == CHECKED            ? memcgrun_check(script, len, options, &answer.out, &answer.err)
+                                     : memcgrun_chart(script, len, options, kind == TABLE, &answer.out, &answer.err);
+    return answer;
+}
+
+static struct answer ask(enum kind kind, const char *script, const struct memcgrun_options *options)
+{
+    return bytes_ask(kind, (const uint8_t *)script, strlen(script), options);
+}
+
+static void free_both(struct answer *answer)
+{
+    memcgrun_text_free(&answer->out);
+    memcgrun_text_free(&answer->err);
+}
+
+static bool is(const struct memcgrun_text *text, const char *wanted)
+{
+    return text->bytes && text->len == strlen(wanted) && !memcmp(text->bytes, wanted, text->len + 1);
+}
+
+static bool has(const struct memcgrun_text *text, const char *part)
+{
+    return text->bytes && strstr((const char *)text->bytes, part);
+}
+
+static bool same(const struct answer *a, const struct answer *b)
+{
+    return a->status == b->status && is(&a->out, (const char *)b->out.bytes) && is(&a->err, (const char *)b->err.bytes);
+}
+
+static void expect_at(int line, enum kind kind, const char *script, const struct memcgrun_options *options,
+                      enum memcgrun_status status, const char *out, const char *err)
+{
+    struct answer answer = ask(kind, script, options);
+    if (answer.status != status || !is(&answer.out, out) || !is(&answer.err, err)) {
+        fprintf(stderr, "calls.c:%d: status %d, %.200s|%.400s\n", line, (int)answer.status, (const char *)answer.out.bytes, (const char *)answer.err.bytes);
+        failed = 1;
+    }
+    free_both(&answer);
+}
+
+#define EXPECT(...) expect_at(__LINE__, __VA_ARGS__)
+
+/* ---- what is asked for */
+
+static const char reads[] = "group /a\ntask 1 /a\n1 write 0 0 7\n1 read 0 0\ncat /a memory.current\nrmdir /b\nrmdir /c\n";
+static const char faulty[] = "group /a\nset /a memory.max\n";
+static const char no_group_b[] = "script:6: rmdir /b: ENOENT, there is no group /b\n";
+
+static void check_asked(void)
+{
+    struct memcgrun_options usual = MEMCGRUN_OPTIONS_INIT, options = usual, zeroed = {.size = sizeof zeroed};
+    struct answer answer;
+    EXPECT(SCHEDULE, reads, NULL, MEMCGRUN_OK, "1 7\n4096\nerror ENOENT\nerror ENOENT\n", "");
+    EXPECT(SCHEDULE, reads, &usual, MEMCGRUN_OK, "1 7\n4096\nerror ENOENT\nerror ENOENT\n", "");
+    EXPECT(SCHEDULE, reads, &zeroed, MEMCGRUN_OK, "1 7\n4096\nerror ENOENT\nerror ENOENT\n", "");
+    EXPECT(SCHEDULE, "", NULL, MEMCGRUN_OK, "", "");
+    options.labels = options.strict = true;
+    EXPECT(SCHEDULE, reads, &options, MEMCGRUN_REFUSED, "4 1 read 0 0: 1 7\n5 cat /a memory.current: 4096\n6 rmdir /b: error ENOENT\n", no_group_b);
+    options = usual;
+    options.quiet = options.explain = true;
+    EXPECT(SCHEDULE, reads, &options, MEMCGRUN_OK, "4096\nerror ENOENT\nerror ENOENT\n",
+           "script:6: rmdir /b: ENOENT, there is no group /b\nscript:7: rmdir /c: ENOENT, there is no group /c\n");
+    options = usual;
+    options.summary = options.strict = true;
+    answer = ask(SCHEDULE, reads, &options);
+    CHECK(answer.status == MEMCGRUN_REFUSED);
+    CHECK(is(&answer.out, "1 7\n4096\nerror ENOENT\n"));
+    CHECK(has(&answer.err, "lines: 6\nkills: 0\nrefused: 1\n"));
+    CHECK(has(&answer.err, no_group_b));
+    CHECK(answer.err.len > strlen(no_group_b) && !strcmp((const char *)answer.err.bytes + answer.err.len - strlen(no_group_b), no_group_b));
+    free_both(&answer);
+}
+
+static void check_turns(void)
+{
+    struct memcgrun_options options = MEMCGRUN_OPTIONS_INIT;
+    char script[16384] = "frames 1024\nswap 600\ntrace 100000\ngroup /a\ntask 1 /a\n";
+    for (int page = 0; page < 500; page++)
+        snprintf(script + strlen(script), sizeof script - strlen(script), "1 write %d 0 1\n", page);
+    strcat(script, "set /a memory.reclaim 2000K\ncat /a memory.current\n");
+    EXPECT(SCHEDULE, script, NULL, MEMCGRUN_OK, "error turn limit\nerror Underway\n", "");
+    options.turns = 100000;
+    EXPECT(SCHEDULE, script, &options, MEMCGRUN_OK, "0\n", "");
+}
+
+static void check_statuses(void)
+{
+    struct memcgrun_options options = MEMCGRUN_OPTIONS_INIT;
+    struct answer answer;
+    size_t longest = (size_t)1 << 26;
+    uint8_t *script = malloc(longest + 1);
+    EXPECT(SCHEDULE, faulty, NULL, MEMCGRUN_BAD_SCRIPT, "", "line 2: missing argument\n");
+    EXPECT(TABLE, faulty, NULL, MEMCGRUN_BAD_SCRIPT, "", "line 2: missing argument\n");
+    EXPECT(CHECKED, faulty, NULL, MEMCGRUN_BAD_SCRIPT, "", "script: line 2: missing argument\n");
+    options.strict = true;
+    EXPECT(SCHEDULE, faulty, &options, MEMCGRUN_BAD_SCRIPT, "", "script:2: missing argument\n");
+    options.strict = false;
+    options.explain = true;
+    for (enum kind kind = SCHEDULE; kind <= TABLE; kind++) {
+        answer = ask(kind, faulty, &options);
+        CHECK(answer.status == MEMCGRUN_BAD_SCRIPT && answer.out.len == 0);
+        CHECK(!strncmp((const char *)answer.err.bytes, "script:2: missing argument\n", 27) && answer.err.len > 27);
+        free_both(&answer);
+    }
+    EXPECT(CHECKED, "cat / cgroup.procs\n#> error ENOENT\n", NULL, MEMCGRUN_OK, "script: ok, 1 answer\n", "");
+    EXPECT(CHECKED, "rmdir /\n#> error ENOENT\n", NULL, MEMCGRUN_DIFFERS, "script:2: wanted error ENOENT, and got error EBUSY\n", "");
+    answer = ask(TABLE, reads, NULL);
+    CHECK(answer.status == MEMCGRUN_OK && has(&answer.out, "line,group,current,") && answer.err.len == 0);
+    free_both(&answer);
+    if (!script)
+        exit(70);
+    memset(script, '#', longest + 1);
+    for (enum kind kind = SCHEDULE; kind <= CHECKED; kind++) {
+        answer = bytes_ask(kind, script, longest + 1, NULL);
+        CHECK(answer.status == MEMCGRUN_BAD_SCRIPT && answer.out.len == 0);
+        CHECK(is(&answer.err, kind == CHECKED ? "script: the script has more than 64 MiB\n" : "the script has more than 64 MiB\n"));
+        free_both(&answer);
+    }
+    answer = bytes_ask(SCHEDULE, script, longest, NULL);
+    CHECK(answer.status == MEMCGRUN_OK && answer.out.len == 0 && answer.err.len == 0);
+    free_both(&answer);
+    free(script);
+}
+
+/* ---- options that are refused */
+
+static void refused_at(int line, enum kind kind, const void *options, const char *err)
+{
+    expect_at(line, kind, reads, options, MEMCGRUN_BAD_OPTIONS, "", err);
+}
+
+#define REFUSED(...) refused_at(__LINE__, __VA_ARGS__)
+
+/* Options of a program that was compiled with another version of the header. */
+union versioned {
+    struct memcgrun_options options;
+    uint8_t bytes[8192];
+};
+
+static void check_versions(void)
+{
+    static const char not_a_size[] = "options: size is not sizeof(struct memcgrun_options)\n";
+    static const char newer[] = "options: a member is set that version " MEMCGRUN_VERSION " does not have\n";
+    static const char answers[] = "1 7\n4096\nerror ENOENT\nerror ENOENT\n";
+    static union versioned given;
+    struct memcgrun_options usual = MEMCGRUN_OPTIONS_INIT;
+    CHECK(!strcmp(memcgrun_version(), MEMCGRUN_VERSION));
+    CHECK(usual.size == sizeof usual && usual.turns == 1000);
+    /* Older: what it lacks has its default, whatever lies behind it. */
+    for (size_t size = 0; size < sizeof usual; size++) {
+        memset(&given, 0xff, sizeof given);
+        given.options.size = size;
+        given.options.turns = 1000;
+        memset(given.bytes + offsetof(struct memcgrun_options, labels), 0, size < 12 ? 0 : size - 12);
+        if (size < 12)
+            REFUSED(SCHEDULE, &given, not_a_size);
+        else
+            EXPECT(SCHEDULE, reads, &given.options, MEMCGRUN_OK, answers, "");
+    }
+    memset(&given, 0xff, sizeof given);
+    given.options = (struct memcgrun_options){.size = offsetof(struct memcgrun_options, strict), .turns = 1000, .labels = true, .strict = true};
+    EXPECT(SCHEDULE, "rmdir /\nrmdir /\n", &given.options, MEMCGRUN_OK, "1 rmdir /: error EBUSY\n2 rmdir /: error EBUSY\n", "");
+    /* Newer: what it has beside is 0, or it is refused. */
+    for (size_t size = sizeof usual; size <= 4097; size += size < 40 ? 1 : 4057) {
+        memset(&given, 0, sizeof given);
+        given.options = usual;
+        given.options.size = size;
+        if (size > 4096) {
+            REFUSED(SCHEDULE, &given, not_a_size);
+            continue;
+        }
+        EXPECT(SCHEDULE, reads, &given.options, MEMCGRUN_OK, answers, "");
+        given.bytes[size] = 1;
+        EXPECT(SCHEDULE, reads, &given.options, MEMCGRUN_OK, answers, "");
+        given.bytes[size - 1] = 1;
+        REFUSED(SCHEDULE, &given, newer);
+    }
+    for (size_t at = offsetof(struct memcgrun_options, reserved); at < sizeof usual; at++) {
+        given.options = usual;
+        given.bytes[at] = 1;
+        REFUSED(SCHEDULE, &given, newer);
+    }
+    given.options = usual;
+    given.bytes[offsetof(struct memcgrun_options, quiet)] = 2;
+    REFUSED(SCHEDULE, &given, "options: quiet is neither 0 nor 1\n");
+}
+
+static void check_taken(void)
+{
+    static const struct {
+        const char *name;
+        size_t at;
+        bool is_charts, is_checks;
+    } flags[] = {
+        {"labels", offsetof(struct memcgrun_options, labels), false, false}, {"strict", offsetof(struct memcgrun_options, strict), false, false},
+        {"as_linux", offsetof(struct memcgrun_options, as_linux), true, true}, {"explain", offsetof(struct memcgrun_options, explain), true, false},
+        {"quiet", offsetof(struct memcgrun_options, quiet), false, false},   {"summary", offsetof(struct memcgrun_options, summary), false, false},
+    };
+    union versioned given;
+    char err[64];
+    for (size_t i = 0; i < sizeof flags / sizeof *flags; i++) {
+        struct answer answer;
+        given.options = (struct memcgrun_options)MEMCGRUN_OPTIONS_INIT;
+        given.bytes[flags[i].at] = 1;
+        answer = ask(PICTURE, "group /a\n", &given.options);
+        snprintf(err, sizeof err, "options: chart does not take %s\n", flags[i].name);
+        CHECK(flags[i].is_charts ? answer.status == MEMCGRUN_OK : answer.status == MEMCGRUN_BAD_OPTIONS && is(&answer.err, err));
+        free_both(&answer);
+        answer = ask(CHECKED, "group /a\n", &given.options);
+        snprintf(err, sizeof err, "options: check does not take %s\n", flags[i].name);
+        CHECK(flags[i].is_checks ? answer.status == MEMCGRUN_OK : answer.status == MEMCGRUN_BAD_OPTIONS && is(&answer.err, err));
+        free_both(&answer);
+    }
+    given.options = (struct memcgrun_options)MEMCGRUN_OPTIONS_INIT;
+    given.options.turns = 5;
+    REFUSED(CHECKED, &given, "options: check does not take turns\n");
+    EXPECT(TABLE, faulty, &given.options, MEMCGRUN_BAD_SCRIPT, "", "line 2: missing argument\n");
+}
+
+/* ---- buffers */
+
+static void check_buffers(void)
+{
+    struct memcgrun_options bad = {.size = 1};
+    struct memcgrun_lengths lengths;
+    uint8_t out[4] = "....", err[4] = "....";
+    const uint8_t *script = (const uint8_t *)reads;
+    CHECK(memcgrun_schedule_into(NULL, 0, NULL, NULL, 0, NULL, 0, &lengths) == MEMCGRUN_OK && !lengths.out && !lengths.err);
+    CHECK(memcgrun_schedule_into(script, strlen(reads), NULL, NULL, 0, NULL, 0, &lengths) == MEMCGRUN_OK && lengths.out == 35 && !lengths.err);
+    CHECK(memcgrun_schedule_into(script, strlen(reads), NULL, out, 2, err, 4, &lengths) == MEMCGRUN_OK && lengths.out == 35);
+    CHECK(!memcmp(out, "1 ..", 4) && !memcmp(err, "....", 4));
+    CHECK(memcgrun_chart_into(script, strlen(reads), NULL, true, out, 4, err, 4, &lengths) == MEMCGRUN_OK && !memcmp(out, "line", 4));
+    CHECK(memcgrun_check_into(script, strlen(reads), NULL, out, 4, err, 4, &lengths) == MEMCGRUN_DIFFERS && !memcmp(out, "scri", 4));
+    CHECK(memcgrun_schedule_into(script, strlen(reads), &bad, out, 4, err, 3, &lengths) == MEMCGRUN_BAD_OPTIONS);
+    CHECK(!lengths.out && lengths.err == 53 && !memcmp(out, "scri", 4) && !memcmp(err, "opt.", 4));
+}
+
+/* ---- each allocation fails in turn */
+
+static bool begins(const struct memcgrun_text *part, const struct memcgrun_text *whole)
+{
+    return part->len <= whole->len && (!part->len || !memcmp(part->bytes, whole->bytes, part->len));
+}
+
+static void check_failing(enum kind kind, const char *script, const struct memcgrun_options *options)
+{
+    struct answer whole = ask(kind, script, options);
+    CHECK(whole.status != MEMCGRUN_NO_MEMORY);
+    for (int all = 0; all < 2; all++) {
+        long wants = 0;
+        for (bool met = false; !met; wants++) {
+            struct answer answer;
+            left = wants;
+            for_good = all;
+            answer = ask(kind, script, options);
+            met = left > 0; /* it was not that many */
+            left = -1;
+            if (answer.status == MEMCGRUN_NO_MEMORY)
+                CHECK(begins(&answer.out, &whole.out));
+            else
+                CHECK(same(&answer, &whole));
+            CHECK(!met || answer.status != MEMCGRUN_NO_MEMORY);
+            free_both(&answer);
+        }
+        CHECK(wants > 10);
+    }
+    free_both(&whole);
+}
+
+static void check_memory(void)
+{
+    static const char small[] = "frames 4\nswap 4\ntrace 64\ngroup /a\nset /a memory.max 8K\ntask 1 /a\n1 write 0 0 1\n1 write 1 0 2\n1 write 2 0 3\n"
+                                "1 read 0 0\nrmdir /b\n2 read 0 0\nrmdir /c\n";
+    static const char bad[] = "frames 4\ngroup /a\nset /a memory.max\n";
+    struct memcgrun_options options = MEMCGRUN_OPTIONS_INIT;
+    check_failing(SCHEDULE, small, NULL);
+    check_failing(SCHEDULE, bad, NULL);
+    check_failing(TABLE, small, NULL);
+    check_failing(PICTURE, bad, NULL);
+    check_failing(CHECKED, small, NULL);
+    check_failing(CHECKED, bad, NULL);
+    options.explain = options.summary = true;
+    check_failing(SCHEDULE, small, &options);
+    check_failing(SCHEDULE, bad, &options);
+    options.labels = options.strict = true;
+    check_failing(SCHEDULE, small, &options);
+}
+
+int main(void)
+{
+    check_asked();
+    check_turns();
+    check_statuses();
+    check_versions();
+    check_taken();
+    check_buffers();
+    check_memory();
+    return failed;
+}
