@@ -6,7 +6,7 @@
 //! lines before the first.
 //!
 //! A line `-- on threads` among the script's says that a run on threads prints the same, each time
-//! of a thousand, and behind it the line of an audit that finds nothing wrong. A line `-- with ` among them names the options, as the
+//! of two thousand, and behind it the line of an audit that finds nothing wrong. A line `-- with ` among them names the options, as the
 //! command line does. A line `-- as linux too` says that the same is so with `--as-linux`. A line `-- says ` has a line of standard
 //! error of a script that is run to its end, and `-- faults ` one of a script that is not; there may be several, in the order in which
 //! they come. There the script's file is called `case`. One that begins with `-- checked` says what a check prints behind the file's name.
@@ -30,7 +30,7 @@ const VERDICT: &[u8] = b"audit ok\n";
 const FILE: &str = "case";
 
 /// How often a case is run on threads.
-const RUNS_ON_THREADS: u32 = 1000;
+const RUNS_ON_THREADS: u32 = 2000;
 
 /// The part of a case that a line belongs to.
 #[derive(Clone, Copy)]
