@@ -22,7 +22,7 @@ const char *memcgrun_version(void);
 
 /* What a call answers. A later version may add more. */
 enum memcgrun_status {
-    /* The script ran to its end. From memcgrun_check: and it answered what it expects. */
+    /* The script ran to its end. From memcgrun_check: and it answered what it expects. A command that got too little memory answers NoMemory in out. */
     MEMCGRUN_OK = 0,
     /* Nothing ran: a line of the script is faulty, or the script is longer than 64 MiB. err names the first faulty line and its fault. */
     MEMCGRUN_BAD_SCRIPT = 1,
