@@ -221,6 +221,6 @@ module _ (marks : Watermarks) (setup : List Line) (rows : List Job) (hired ready
       let last : AreAtRest (daemon ∷ []) = (on (rest-fresh fresh.kept new), tt) in
       record {
         many =
-          omega (arith, none, one, two, three, len, ap length whole, length-append workers others, ap length are, length-append (passes_in worked ++ passes_in others) (daemon ∷ []), length-append (passes_in worked) (passes_in others), length-passes worked, length-passes others);
+            omega (arith, none, one, two, three, len, ap length whole, length-append workers others, ap length are, length-append (passes_in worked ++ passes_in others) (daemon ∷ []), length-append (passes_in worked) (passes_in others), length-passes worked, length-passes others);
         rest = subst AreAtRest (sym are) (rest-append (passes_in worked ++ passes_in others) (daemon ∷ []) (rest-append (passes_in worked) (passes_in others) (worked-rest marks workers worked each parts.0) parts.1) last);
       }

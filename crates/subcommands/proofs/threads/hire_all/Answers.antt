@@ -22,9 +22,8 @@ hire-requires g c =
 
 pub loop-actor-preserved : goal.loop-actor-preserved
 loop-actor-preserved g c =
-    let row : Row = (c.in-Some.actor, c.in-Some.commands) in
-    (
+    let row : Row = (c.in-Some.actor, c.in-Some.commands) in (
       subst (λ (rows : List (Actor × List Command)). HiredAll rows c.hire.new.self.workers.items) (sym (map-append (λ (r : Row). (r.0, r.1.items)) c.loop-actor.yielded (row ∷ [])))
-      (hired-push _ c.in-Some.actor c.in-Some.commands.items c.loop-actor.crew.workers.items c.hire.new.self.workers.items c.loop-actor.invariant.0 c.in_ok-hire.ensures.hired),
+          (hired-push _ c.in-Some.actor c.in-Some.commands.items c.loop-actor.crew.workers.items c.hire.new.self.workers.items c.loop-actor.invariant.0 c.in_ok-hire.ensures.hired),
       counts-both _ _ _ [] c.loop-actor.crew.workers.items c.hire.new.self.workers.items c.loop-actor.invariant.1 c.in_ok-hire.ensures.counted,
     )
