@@ -149,7 +149,8 @@ pub fn finish<L: Opened>(
     let last = passes.pop();
     match live.finish(passes, roll) {
         Ok(_) => Err("finished without a pass".into()),
-        Err((live, mut passes, Unfinished::PassMissing(given), roll)) => {
+        Err((live, mut passes, cause, roll)) => {
+            let Unfinished::PassMissing(given) = cause;
             let pushed = match last {
                 Some(pass) => passes.push(pass).is_ok(),
                 None => false,
