@@ -11,7 +11,7 @@
  * Limits get an eighth of a page on top, for what the kernel charges besides: page tables, stacks, memory of its own.
  * Files lie in /mnt. Swap is what is on, of which the script's root may use as many pages as the script says.
  *
- * docs/KERNEL.md tells what comes of it. */
+ * docs/LINUX.md describes this, and docs/KERNEL.md has the answers. */
 #define _GNU_SOURCE
 #include <ctype.h>
 #include <errno.h>
