@@ -6,12 +6,14 @@
     docs/tool.py map [CRATE]      each crate: what it does, what it uses, its source files and its lemmas
     docs/tool.py crates           the picture of the crates, which is docs/crates.svg
     docs/tool.py phrases [PAGE]   the sentences that the list of phrases finds, with what to write instead
-    docs/tool.py counts           how many of them each page has, and how many words; docs/counts keeps that
+    docs/tool.py sample PAGE      ten sentences at random, to be read cold: what does each say, and was it read twice?
+    docs/tool.py counts [--all]   how many of them each page has, and how many words; docs/counts keeps what fell, or all
     docs/tool.py check            all that docs/check holds by this program
 """
 import glob
 import itertools
 import os
+import random
 import re
 import sys
 
@@ -405,7 +407,7 @@ def sentences(page):
         text = re.sub(r"`[^`]*`", "X", text)
         text = re.sub(r"\]\([^)]*\)", "]", text)
         text = re.sub(r"^([-#]+|[0-9]+\.) ", "", text)
-        for sentence in re.split(r"(?<=[.!?:])\s+(?=[A-Z*`(\[])|(?<=[.!?]\))\s+(?=[A-Z*`(\[])|\s*\|\s*", text):
+        for sentence in re.split(r"(?<=[.!?:])\s+(?=[A-Z*`(\[\"])|(?<=[.!?]\))\s+(?=[A-Z*`(\[\"])|\s*\|\s*", text):
             sentence = sentence.strip().lstrip("(*[")
             if sentence:
                 yield sentence
@@ -441,57 +443,70 @@ def print_phrases(*named):
                 print(f"{page}: {'; '.join(hits)}: {sentence}")
 
 
+def print_sample(page):
+    found = [sentence for sentence in sentences(page) if len(sentence.split()) > 5]
+    for sentence in random.sample(found, min(10, len(found))):
+        print(f"- {sentence}")
+
+
 def count(page, listed):
     """How many sentences of a page have a phrase of the list, and how many are too long."""
     found = list(sentences(page))
     return sum(bool(odd_phrases(sentence, listed)) for sentence in found), sum(map(is_long, found))
 
 
-COUNTS_HEAD = """# Of each page how many sentences have a phrase of docs/phrases, and how many have more than 35 words. Pages without any are left out.
-# docs/check fails if a number rises. docs/tool.py counts writes the numbers that fell."""
+COUNTS_HEAD = """# Of each page how many sentences have a phrase of docs/phrases, and how many have more than 35 words; pages without any are left out.
+# And how many words all pages have, if there are more than 55,000. docs/check fails if a number rises. docs/tool.py counts writes what fell;
+# docs/tool.py counts --all writes all, for instance after a merge."""
 
 
 def kept_counts():
-    found = {}
-    for line in lines_of("docs/counts"):
-        if not line.startswith("#"):
+    """The counts that are kept, by page, and how many words there may be."""
+    found, most = {}, MOST_WORDS
+    for line in lines_of("docs/counts") if os.path.exists("docs/counts") else []:
+        if line.startswith("words "):
+            most = max(most, int(line.split()[1]))
+        elif not line.startswith("#"):
             page, odd, long = line.split()
             found[page] = int(odd), int(long)
-    return found
-
-
-def risen(now, kept):
-    """Which counts are greater than those kept, each with what to do."""
-    found = []
-    for page, (odd, long) in now.items():
-        was_odd, was_long = kept.get(page, (0, 0))
-        if odd > was_odd:
-            found.append(f"{page} has {odd} sentences with a phrase of docs/phrases, where docs/counts allows {was_odd}; docs/tool.py phrases {page} shows them")
-        if long > was_long:
-            found.append(f"{page} has {long} sentences of more than {MOST_WORDS_OF_A_SENTENCE} words, where docs/counts allows {was_long}; docs/tool.py phrases {page} shows them")
-    return found
+    return found, most
 
 
 def current_counts():
     listed = phrases()
-    return {page: count(page, listed) for page in pages()}
+    return {page: count(page, listed) for page in pages()}, sum(map(words_of, pages()))
 
 
-def write_counts():
-    now = current_counts()
-    wrong = risen(now, kept_counts()) if os.path.exists("docs/counts") else []
+def risen():
+    """Which counts are greater than those kept, each with what to do."""
+    (now, words), (kept, most) = current_counts(), kept_counts()
+    found = []
+    for page, counted in now.items():
+        for number, allowed, what in zip(counted, kept.get(page, (0, 0)), ("with a phrase of docs/phrases", f"of more than {MOST_WORDS_OF_A_SENTENCE} words")):
+            if number > allowed:
+                found.append(f"{page} has {number} sentences {what}, and may have {allowed}; docs/tool.py phrases {page} shows them")
+    if words > most:
+        found.append(f"the pages have {words} words, and may have {most}")
+    return found
+
+
+def write_counts(option=None):
+    wrong = [] if option == "--all" else risen()
     for line in wrong:
         print(f"docs: {line}", file=sys.stderr)
     if wrong:
         sys.exit(1)
+    now, words = current_counts()
     with open("docs/counts", "w", encoding="utf-8") as file:
         print(COUNTS_HEAD, file=file)
+        if words > MOST_WORDS:
+            print("words", words, file=file)
         for page, (odd, long) in now.items():
             if odd or long:
                 print(page, odd, long, file=file)
     for page in pages():
         print(f"{page}: {words_of(page)} words, {now[page][0]} odd, {now[page][1]} long")
-    print(f"{sum(map(words_of, pages()))} words")
+    print(f"{words} words")
 
 
 def wrong_places():
@@ -537,16 +552,13 @@ def check():
         if file.read() != picture():
             wrong.append("docs/crates.svg is not what docs/tool.py crates prints")
     wrong += wrong_places()
-    wrong += risen(current_counts(), kept_counts())
-    total = sum(map(words_of, pages()))
-    if total > MOST_WORDS:
-        wrong.append(f"the pages have {total} words, and may have {MOST_WORDS}")
+    wrong += risen()
     for line in wrong:
         print(line)
 
 
 def main():
-    commands = {"tables": print_tables, "laws": print_laws, "map": print_map, "crates": print_crates, "phrases": print_phrases, "counts": write_counts, "check": check}
+    commands = {"tables": print_tables, "laws": print_laws, "map": print_map, "crates": print_crates, "phrases": print_phrases, "sample": print_sample, "counts": write_counts, "check": check}
     if len(sys.argv) < 2 or sys.argv[1] not in commands:
         sys.exit(__doc__)
     try:
