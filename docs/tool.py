@@ -393,7 +393,12 @@ def words_of(page):
     return sum(len(line.split()) for line in prose(page) if not (page == WRITTEN_TABLES and line.startswith("|")))
 
 
-def sentences(page):
+# Where a sentence ends: after its sign, or after the bracket or the bold letters that end with it; and at the bars of a table.
+SENTENCE_END = re.compile(r"""(?:(?<=[.!?:])|(?<=[.!?]\))|(?<=[.!?]\*\*))\s+(?=[A-Z*`(\["])|\s*\|\s*""")
+
+
+def sentences(page, with_code=False):
+    """The sentences of a page. What is in a code span is X, or with_code as it is written; links are their words."""
     held, found = [], []
     for line in prose(page) + [""]:
         # A paragraph ends at an empty line; a heading, an item and a row are paragraphs.
@@ -404,11 +409,14 @@ def sentences(page):
         if line.strip():
             held.append(line.strip())
     for text in found:
-        text = re.sub(r"`[^`]*`", "X", text)
-        text = re.sub(r"\]\([^)]*\)", "]", text)
+        spans = re.findall(r"`[^`]*`", text)
+        text = re.sub(r"`[^`]*`", "X\0", text)
+        text = re.sub(r"!?\[([^]]*)\]\([^)]*\)", r"\1", text)
         text = re.sub(r"^([-#]+|[0-9]+\.) ", "", text)
-        for sentence in re.split(r"(?<=[.!?:])\s+(?=[A-Z*`(\[\"])|(?<=[.!?]\))\s+(?=[A-Z*`(\[\"])|\s*\|\s*", text):
-            sentence = sentence.strip().lstrip("(*[")
+        for sentence in SENTENCE_END.split(text):
+            if with_code:
+                sentence = re.sub("X\0", lambda _: spans.pop(0), sentence)
+            sentence = sentence.replace("\0", "").replace("**", "").strip().lstrip("(*")
             if sentence:
                 yield sentence
 
@@ -444,7 +452,7 @@ def print_phrases(*named):
 
 
 def print_sample(page):
-    found = [sentence for sentence in sentences(page) if len(sentence.split()) > 5]
+    found = [sentence for sentence in sentences(page, with_code=True) if len(sentence.split()) > 5]
     for sentence in random.sample(found, min(10, len(found))):
         print(f"- {sentence}")
 
