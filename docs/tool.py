@@ -1,5 +1,5 @@
 #!/usr/bin/env python3
-"""What is printed of the sources, and what docs/check holds of the pages.
+"""Prints what the sources say, and checks the pages for docs/check.
 
     docs/tool.py tables [CRATE]   each definition: what it says and what it excludes
     docs/tool.py laws             each law, in a sentence
@@ -8,7 +8,7 @@
     docs/tool.py phrases [PAGE]   the sentences that the list of phrases finds, with what to write instead
     docs/tool.py sample PAGE      ten sentences at random, to be read cold: what does each say, and was it read twice?
     docs/tool.py counts [--all]   how many of them each page has, and how many words; docs/counts keeps what fell, or all
-    docs/tool.py check            all that docs/check holds by this program
+    docs/tool.py check            what is wrong with the pages, for docs/check
 """
 import glob
 import itertools
@@ -164,7 +164,6 @@ def print_tables(crate=None):
             Table(path).print()
 
 
-
 # ---- laws, lemmas, crates
 
 
@@ -260,8 +259,8 @@ TESTS = {"cases", "acceptance", "streams", "slow_device", "shortages", "leaves",
 
 
 def layers():
-    """The crates in rows, each above all that it uses; and the lines between them. A line leads from a crate to one that it uses and reaches by no other, over a
-    point in each row between."""
+    """The crates in rows, each above all that it uses; and the lines between them. A line leads to a crate that the upper one uses and does not reach through
+    another, with a point in each row between."""
     uses = {name: used for name, used, _ in crate_lines() if name not in TESTS}
     below, depth = {}, {}
     for name, used in uses.items():
@@ -291,7 +290,7 @@ def room(item):
 
 
 def place(rows, lines):
-    """The place of each crate and point in its row, so that lines are short: rows are sorted by their neighbours again and again."""
+    """The place of each crate and point in its row. Lines are short, since each row is sorted by its neighbours many times."""
     width = max(sum(map(room, row)) for row in rows)
     near = {item: [] for row in rows for item in row}
     for line in lines:
@@ -304,12 +303,12 @@ def place(rows, lines):
             at[item] = (k + 0.5) * width / len(row)
     for turn in range(60):
         for row in rows if turn % 2 else rows[::-1]:
-            wished = {item: sum(at[other] for other in near[item]) / len(near[item]) if near[item] else at[item] for item in row}
-            row.sort(key=lambda item: (wished[item], str(item)))
-            # Each is as near as it can be to where it is wished, with room for all.
+            ideal = {item: sum(at[other] for other in near[item]) / len(near[item]) if near[item] else at[item] for item in row}
+            row.sort(key=lambda item: (ideal[item], str(item)))
+            # Each is as near to its ideal place as it can be, with room for all.
             for k, item in enumerate(row):
                 left = at[row[k - 1]] + (room(row[k - 1]) + room(item)) / 2 if k else room(item) / 2
-                at[item] = max(wished[item], left)
+                at[item] = max(ideal[item], left)
             for k in range(len(row) - 1, -1, -1):
                 item = row[k]
                 right = at[row[k + 1]] - (room(row[k + 1]) + room(item)) / 2 if k + 1 < len(row) else width - room(item) / 2
@@ -375,7 +374,7 @@ def pages():
 
 
 def prose(page):
-    """The lines of a page that are not in a block of code, with an empty line for each that is."""
+    """The lines of a page, but an empty line in place of each that is in a block of code, or in a table that a program writes."""
     kept, fenced, indented, blank = [], False, False, True
     for line in lines_of(page):
         if line.startswith("```"):
@@ -384,13 +383,14 @@ def prose(page):
             continue
         indented = line.startswith("    ") and (blank or indented)
         blank = not line.strip()
-        kept.append("" if fenced or indented else line)
+        written = page == WRITTEN_TABLES and line.startswith("|")
+        kept.append("" if fenced or indented or written else line)
     return kept
 
 
 def words_of(page):
     """How many words a page has outside of its blocks of code, and of the tables that a program writes."""
-    return sum(len(line.split()) for line in prose(page) if not (page == WRITTEN_TABLES and line.startswith("|")))
+    return sum(len(line.split()) for line in prose(page))
 
 
 # Where a sentence ends: after its sign, or after the bracket or the bold letters that end with it; and at the bars of a table.
