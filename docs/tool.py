@@ -517,6 +517,16 @@ def write_counts(option=None):
     print(f"{words} words")
 
 
+def wrong_commands():
+    """What pages call by the name of this program, and it does not know."""
+    found = []
+    for page in pages():
+        with open(page, encoding="utf-8") as file:
+            said = set(re.findall(r"docs/tool\.py ([a-z]+)", file.read()))
+        found += [f"{page} names docs/tool.py {word}, which is no command of it" for word in sorted(said - set(COMMANDS))]
+    return found
+
+
 def wrong_places():
     """What docs/MAP.md names under "Where to change what" and is not there. A part of a cell is `CRATE`, and behind a colon files of its specs/ or src/; in
     brackets are words of them."""
@@ -559,18 +569,29 @@ def check():
     with open("docs/crates.svg", encoding="utf-8") as file:
         if file.read() != picture():
             wrong.append("docs/crates.svg is not what docs/tool.py crates prints")
-    wrong += wrong_places()
+    wrong += wrong_commands() + wrong_places()
     wrong += risen()
     for line in wrong:
         print(line)
 
 
+COMMANDS = {
+    "tables": print_tables,
+    "laws": print_laws,
+    "map": print_map,
+    "crates": print_crates,
+    "phrases": print_phrases,
+    "sample": print_sample,
+    "counts": write_counts,
+    "check": check,
+}
+
+
 def main():
-    commands = {"tables": print_tables, "laws": print_laws, "map": print_map, "crates": print_crates, "phrases": print_phrases, "sample": print_sample, "counts": write_counts, "check": check}
-    if len(sys.argv) < 2 or sys.argv[1] not in commands:
+    if len(sys.argv) < 2 or sys.argv[1] not in COMMANDS:
         sys.exit(__doc__)
     try:
-        commands[sys.argv[1]](*sys.argv[2:])
+        COMMANDS[sys.argv[1]](*sys.argv[2:])
     except BrokenPipeError:
         os.dup2(os.open(os.devnull, os.O_WRONLY), sys.stdout.fileno())
 
