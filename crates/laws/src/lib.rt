@@ -4,282 +4,301 @@
 
 ghost use Rattle.laws.specs.Laws.{RunsAreLegal, RunsAreHonest, NoStrangers, ErrorsAreFailures, EachFailureIsAnswered, TransfersAreInHand, NothingIsLeft, CurrentCountsPages, EventsAreThoseCounted, CountsAreOfTheHistory, ChargesStayWithinMax, OnlyAccessesCharge, KillsComeLast, VictimsHaveTheMostPages, GroupKillsAreWhole, SingleKillsAreUnflagged, KillsAreCounted, ReadsGiveLastWrites, HonestDevicesPassTheAudit, AuditedReadsGaveLastWrites, PagesShareNoFrame, PagesShareNoBlock, BlocksAreThere, PagesShareNoTicket, FilePagesStayAtHome, FilePagesAreOne, OnlyCleanPagesAreDropped, StatAddsUpToCurrent, MappingsShowPages, MemoryWithoutAMappingIsGone, SharedBytesAgree, ForksShare, MovesTakeNoCharge, RemovalsKeepAncestorsCounts, RemovedGroupsHaveNoPages, RootIsNeverFlagged, OnlySetsChangeSettings, TraceHasRoom, TransfersAreBegunLessEnded, TransfersStayCharged, RepliesAreSettled, OrdersAreSettled, WriteOutsStayCharged, ReclaimsSpareTheProtected, SharesStayWithin, LowsComeLast, LowsAreCounted, LowsKillNobody, ReclaimsGiveUpLast, ReclaimsKillNobody, HeldPagesAreListed, GenerationsHold, GroupsHaveCursors, HeldPagesGoOn, OnlyTakesAge, HitsMark, OnlyHitsMark, OnlyMergesMark, MergesChangeMarksAlone, MergesAreServed, PagesLeaveInOrder, MarkedPagesStay, GroupsAreThere};
 
-/// The history of every run leads from the opening to the run's state, one step of the plain machine
-/// an entry.
+/// The history of every run is legal: it leads from the opening to the run's state, and each entry is one
+/// step of the plain machine. So what holds of each step, and of each legal history, holds of every run.
 pub fn runs_are_legal()
     ensures { RunsAreLegal }
 {}
 
-/// Every page that was read in during a run brought what was last written, or what the device had for the
-/// file before the run, the device being one that has the blocks and keeps its promise.
+/// Each page that was read in during a run brought what was last written, or what the device had for a file
+/// before the run. The device has the blocks of a configuration within the limits, and keeps its promise.
 pub fn runs_are_honest()
     ensures { RunsAreHonest }
 {}
 
-/// No command of a run is told that its ticket is none of its own.
+/// No command of a run is refused because its ticket is not its own.
 pub fn no_strangers()
     ensures { NoStrangers }
 {}
 
-/// As many answers at most tell of an error of the device as calls of it have failed. So a device
-/// without faults gives none.
+/// The number of answers `EIO` of a run is at most that of failed calls of the device. So a device without
+/// faults gives none.
 pub fn errors_are_failures()
     ensures { ErrorsAreFailures }
 {}
 
-/// The errors of the device that a run answered, and those that its commands under way still owe, are
-/// together as many as calls of it failed.
+/// The number of answers `EIO` of a run, with those that commands under way still owe, is exactly that of
+/// failed calls of the device. (This excludes a failure that is never answered, and one that is answered
+/// twice.)
 pub fn each_failure_is_answered()
     ensures { EachFailureIsAnswered }
 {}
 
-/// After any run as many pages are in transfer as commands have the ticket of one in hand.
+/// After any run the number of pages in transfer is that of commands under way with a ticket in hand.
 pub fn transfers_are_in_hand()
     ensures { TransfersAreInHand }
 {}
 
-/// After a run in which each command was answered no page is in transfer, whatever failed: the frames in
-/// use are those of held pages, and the swap blocks in use those of pages on their block alone.
+/// After a run in which each command was answered, no page is in transfer, whatever failed. The frames in use
+/// are those of resident pages, and the swap blocks in use are those of pages that are swapped out.
 pub fn nothing_is_left()
     ensures { NothingIsLeft }
 {}
 
-/// A page counts as charged while it is in transfer, in either direction.
+/// A page in transfer, in either direction, is charged to its group and to each group above it. (Unfolds
+/// `is_charged`.)
 pub fn transfers_stay_charged()
     ensures { TransfersStayCharged }
 {}
 
-/// Beginning to write a page out leaves the count of every group as it was.
+/// An event that begins a write-out leaves the count of every group as it was.
 pub fn write_outs_stay_charged()
     ensures { WriteOutsStayCharged }
 {}
 
-/// `memory.current` counts the pages with frames at or under the group.
+/// The number that `memory.current` shows is that of the pages with frames in the group and below it.
+/// (Unfolds `shown_of`.)
 pub fn current_counts_pages()
     ensures { CurrentCountsPages }
 {}
 
-/// Of each key `memory.events` shows how often it was counted at or under the group, and
-/// `memory.events.local` how often at the group itself.
+/// For each of the six keys, `memory.events` shows how often it was counted at the group or below it, and
+/// `memory.events.local` how often at the group itself. (Unfolds `shown_of`.)
 pub fn event_files_show_what_was_counted()
     ensures { EventsAreThoseCounted }
 {}
 
-/// What `memory.events.local` shows is nothing but what the history counted: the events that its entries
-/// name, one by one, counted by group and key. What `memory.events` shows is the sum of these over the
-/// groups at and below the group.
+/// Each number that is counted is that of the events that the history counted, and of nothing else. These
+/// events can be listed entry by entry: a charge that a group's max refused, a page reclaimed from a group
+/// within its low, a kill, a relief without a victim. By every such list, each key was counted at each group
+/// once for each of its places in the list.
 pub fn counts_are_of_the_history()
     ensures { CountsAreOfTheHistory }
 {}
 
-/// No access that gives a page a frame passes the max of the group or of one above it. (A max that
-/// is lowered below the group's count admits no charge, but is passed by what was charged before.)
+/// An access that raises the number of pages charged to a group leaves it at most at the group's max. This
+/// holds for every group, so for each above the task's. A max that was lowered below the count may stay
+/// exceeded, but admits no charge.
 pub fn charges_stay_within_max()
     ensures { ChargesStayWithinMax }
 {}
 
-/// No event but an access leaves more pages charged under a group. So, by `charges_stay_within_max`, a
-/// count that rises stays within the group's max, whatever the event.
+/// In a state that a legal history leads to, only an access raises the number of pages charged to a group.
+/// So, by `charges_stay_within_max`, a count that rises stays within the max, whatever the event.
 pub fn only_accesses_charge()
     ensures { OnlyAccessesCharge }
 {}
 
-/// A task is killed only where nothing can be reclaimed under the limit group, and only a live task
-/// of a group at or under it. So is each task that dies with it, where its group does.
+/// A relief kills only if nothing under its limit group can be reclaimed and nothing there is in transfer.
+/// The task that it kills is a live one of a group at or below that group. So is each task that dies with it,
+/// in a state that a legal history leads to.
 pub fn kills_come_last()
     ensures { KillsComeLast }
 {}
 
-/// Of the live tasks of groups at or under the limit group the one that is killed has the most mappings,
-/// and of those that have as many the least number.
+/// The victim of a relief, alone or with its group, is a live task of a group at or below the limit group. No
+/// other such task maps more pages, and none that maps the same number has a lower task number. (Unfolds
+/// `IsVictim`.)
 pub fn victims_have_the_most_pages()
     ensures { VictimsHaveTheMostPages }
 {}
 
-/// Where a group is killed as one (`memory.oom.group`), all tasks that live in it and below it are, the victim among
-/// them, and nobody else. It is the highest group with the flag from the victim's up to the limit group, both
-/// counted.
+/// In a state that a legal history leads to: if a group is killed as one, all live tasks in it and below it
+/// die and map nothing afterwards. The victim is one of them, and the answer has their number. No other task
+/// changes, nor what it maps. The group is at or below the limit group and has the flag `memory.oom.group`.
+/// No group between the two has it, nor has the limit group, unless that is the group.
 pub fn group_kills_are_whole()
     ensures { GroupKillsAreWhole }
 {}
 
-/// A task is killed alone only where no group from its own up to the limit group, both counted, is to be
-/// killed as one.
+/// In such a state a task is killed alone only if no group from its own up to the limit group, both included,
+/// has the flag. No other task changes. (This excludes a group with the flag whose tasks are killed one by
+/// one.)
 pub fn single_kills_are_unflagged()
     ensures { SingleKillsAreUnflagged }
 {}
 
-/// A kill counts `oom` once at the limit group, `oom_kill` once for each task that is killed, at its own group, and
-/// `oom_group_kill` once at the group that is killed as one, if one is; and nothing else.
+/// In such a state a kill counts `oom` once at the limit group, and `oom_kill` once for each task that dies,
+/// at the task's group. It counts `oom_group_kill` once at the group that is killed as one, if one is. No
+/// other number changes.
 pub fn kills_are_counted()
     ensures { KillsAreCounted }
 {}
 
-/// A page that is taken was its reclaim's target's own, or of a group below the target that used more
-/// than its effective `memory.min`. No other page changes.
+/// A page that is reclaimed was resident. Its group is the reclaim's target, or is below it and uses more
+/// than its effective `memory.min` for that target. No other page changes. (Unfolds `Takes`.)
 pub fn reclaims_spare_the_protected()
     ensures { ReclaimsSpareTheProtected }
 {}
 
-/// A page of a group within its effective `memory.low` is taken only where each page that may be taken
-/// is of such a group.
+/// A page of a group below the target that uses no more than its effective `memory.low` is reclaimed only if
+/// each page that can be reclaimed is of such a group. (This excludes that it is reclaimed while another page
+/// is left that no low protects, of another group or of the target itself. Unfolds `is_next`.)
 pub fn lows_come_last()
     ensures { LowsComeLast }
 {}
 
-/// Where a page of a group within its effective `memory.low` is taken, `low` is counted once at that
-/// group, and nothing else is. No other event counts `low`.
+/// If a page of a group within its effective `memory.low` is reclaimed, `low` is counted once at that group,
+/// and nothing else is. If another page is reclaimed, nothing is counted. No other event counts `low`. (This
+/// excludes a count at the target, and one for each group that is passed over.)
 pub fn lows_are_counted()
     ensures { LowsAreCounted }
 {}
 
-/// Where a task is killed nothing could have been reclaimed with other lows either.
+/// If a relief kills a task or a group, nothing under its limit group could be reclaimed with any other lows
+/// either, and nothing there is in transfer. (This excludes a kill for a page that a low protects.)
 pub fn lows_kill_nobody()
     ensures { LowsKillNobody }
 {}
 
-/// Where a group below a reclaim's target has an effective `memory.min` of so many pages, or `memory.low`,
-/// its live children have together no more of it, with recursive protection and without.
+/// In a state that a legal history leads to: if the effective min, or low, of a group below a reclaim's
+/// target is a number of pages, so is that of each live child. Together these are no more than the group's,
+/// with recursive protection and without. (This excludes shares that are rounded up, and children that get
+/// their full claim if that is more than there is.)
 pub fn shares_stay_within()
     ensures { SharesStayWithin }
 {}
 
-/// A reclaim by `memory.reclaim` or by the daemon answers that there is nothing only where no page can
-/// be taken for its target and none under it is in transfer, and it changes nothing then.
+/// A reclaim by `memory.reclaim` or by the daemon finds nothing only if nothing under its target can be
+/// reclaimed and nothing there is in transfer. It changes nothing then. (Unfolds `ReclaimStep`.)
 pub fn reclaims_give_up_last()
     ensures { ReclaimsGiveUpLast }
 {}
 
-/// A reclaim by `memory.reclaim` or by the daemon kills no task.
+/// A reclaim by `memory.reclaim` or by the daemon is never answered by a kill, and changes no task. (Unfolds
+/// `ReclaimStep`.)
 pub fn reclaims_kill_nobody()
     ensures { ReclaimsKillNobody }
 {}
 
-/// After any run each page that is in a frame and in no transfer is once on the lists of its group and
-/// type, and no other page is on a list, or marked.
+/// After any run each resident page that is in no transfer is once on the lists of its group and type. No
+/// other page is on a list, and no other page is marked.
 pub fn held_pages_are_listed()
     ensures { HeldPagesAreListed }
 {}
 
-/// After any run each group has lists of its own: of each type two to four generations, the older
-/// before the younger, and each page in one that has not ended. And there is a mark for each number that
-/// a page may have.
+/// After any run each group has its own lists: of each type two to four generations by rising number, and
+/// each page in one of these. There is a mark for each number that a page may have.
 pub fn generations_hold()
     ensures { GenerationsHold }
 {}
 
-/// After any run each group has a cursor of its own, so that each target's can move.
+/// After any run there is a cursor for each group, so each target's can move.
 pub fn groups_have_cursors()
     ensures { GroupsHaveCursors }
 {}
 
-/// A call that changes anything and takes no page lets the lists of held pages go on. Marks that are merged
-/// move none. What is held no more leaves its list, and all others stay as they stood; and what comes to be
-/// held, one page at most, enters a generation of its group, unmarked: that of the placement where it was
-/// read in, and else the youngest. A group more begins with no page. The pages of a group that goes are
-/// on its parent's lists, behind those of the second youngest generation, the oldest first, and marked as
-/// they were.
+/// A call that changes anything and reclaims no page leaves the lists as follows. A page that is no longer
+/// resident leaves its list, and all others keep their places. At most one page becomes resident. It enters
+/// the generation of the placement if it was read in, else the youngest, and is not marked. A merge of marks
+/// moves no page, and a new group's lists are empty. The pages of a removed group are on its parent's lists,
+/// after those of the second youngest generation, the oldest first, and marked as they were. (Unfolds
+/// `Orders`.)
 pub fn held_pages_go_on()
     ensures { HeldPagesGoOn }
 {}
 
-/// No generation of any group begins or ends in a call that takes no page.
+/// In a call that reclaims no page, no generation of any group begins or ends.
 pub fn only_takes_age()
     ensures { OnlyTakesAge }
 {}
 
-/// A turn in which an access uses a page as it is marks it; but, as Linux places pages, that of an access to a file
-/// that had its page read in.
+/// Whatever a run led to, a turn whose access is answered by a hit leaves that page marked. With `--as-linux`
+/// this does not hold of an access to a file that had its page read in.
 pub fn hits_mark()
     ensures { HitsMark }
 {}
 
-/// No turn marks a page otherwise: neither one that makes, copies or reads in a page, nor one that takes
-/// one. That none comes with an old mark of its number, [`held_pages_go_on`] says.
+/// No other turn marks a page: none that makes, copies or reads in a page, and none that reclaims one.
+/// [`held_pages_go_on`] says that no page begins with an old mark of its number.
 pub fn only_hits_mark()
     ensures { OnlyHitsMark }
 {}
 
-/// Of the calls of a book only a merge of marks marks pages: those that are held in the frames of its bits.
+/// Of all calls of a book only a merge marks pages, and only those held in the frames of its bits. So no
+/// access marks a page by itself, and no bit marks the page that had its frame before.
 pub fn only_merges_mark()
     ensures { OnlyMergesMark }
 {}
 
-/// A merge of marks changes nothing else: no page, no list, no cursor, no history.
+/// A merge changes no page, no list, no cursor and no history, and clears no mark. (Unfolds `MergesMarks`.)
 pub fn merges_change_marks_alone()
     ensures { MergesChangeMarksAlone }
 {}
 
-/// After every run a merge of marks is answered, and marks what it names: it is never refused for want of
-/// room or of memory.
+/// After every run a merge is answered `Ok`, whatever pass asks for it, and marks the pages held in the
+/// frames of its bits. So it is refused neither because the trace is full nor for lack of memory.
 pub fn merges_are_served()
     ensures { MergesAreServed }
 {}
 
-/// The page that a call takes is the one of its group's that is evicted next, and it was that group's
-/// turn to give a page to the reclaim's target. The lists go on without it as the search for it left
-/// them, and the target's cursor names the group.
+/// Whatever a run led to, a page that a call reclaims is of the group whose turn it is for that target. Of
+/// that group's pages it is the one that is evicted next. The lists go on without it as the search left them,
+/// and the target's cursor then names the group.
 pub fn pages_leave_in_order()
     ensures { PagesLeaveInOrder }
 {}
 
-/// A marked page is taken only where each page of its group that may be taken is marked, or of one of
-/// the group's two youngest generations.
+/// Whatever a run led to, a marked page is reclaimed only if each page of its group that can be reclaimed is
+/// marked, or in one of the group's two youngest generations.
 pub fn marked_pages_stay()
     ensures { MarkedPagesStay }
 {}
 
-/// Each read that is done gives the byte last written.
+/// Each read in a right history gave the byte last written before it, or what the byte was at first. What a
+/// child has not written is what its parent had there at the fork. What was freed is 0. What any task wrote
+/// to a file, all tasks read. (Unfolds `Right`.)
 pub fn reads_give_last_writes()
     ensures { ReadsGiveLastWrites }
 {}
 
-/// `trace::audit` finds nothing wrong in the trace of a run, the device being one that has the blocks and
-/// keeps its promise.
+/// An audit finds nothing wrong in the trace of a run over a device that has the blocks and keeps its
+/// promise.
 pub fn honest_devices_pass_the_audit()
     ensures { HonestDevicesPassTheAudit }
 {}
 
-/// Where `trace::audit` finds nothing wrong, each read of the trace gave the byte last written, whatever
-/// the device did. What a page of a file had before the run is what its first arrival brought.
+/// If an audit finds nothing wrong, each read of the trace gave the byte last written, whatever the device
+/// did. A byte of a file that no task wrote is what its page's first arrival brought. (Unfolds `Passes`.)
 pub fn audited_reads_gave_last_writes()
     ensures { AuditedReadsGaveLastWrites }
 {}
 
-/// Whatever state a run's history leads to, no two pages have one frame.
+/// In a state that a legal history leads to, no two pages have one frame.
 pub fn pages_share_no_frame()
     ensures { PagesShareNoFrame }
 {}
 
-/// Whatever state a run's history leads to, no two pages have one block of the device.
+/// In a state that a legal history leads to, no two pages have one block of the device.
 pub fn pages_share_no_block()
     ensures { PagesShareNoBlock }
 {}
 
-/// Whatever state a run's history leads to, each block of a page is one of those that the device has
-/// to have.
+/// In a state that a legal history leads to, each block of a page is one that the configuration asks of the
+/// device.
 pub fn blocks_are_there()
     ensures { BlocksAreThere }
 {}
 
-/// Whatever state a run's history leads to, no two pages are in transfer under one ticket.
+/// In a state that a legal history leads to, no two pages are in transfer under one ticket.
 pub fn pages_share_no_ticket()
     ensures { PagesShareNoTicket }
 {}
 
-/// Whatever state a run's history leads to, a page of a file stands in its frame, or between that and its
-/// own home block, and is written out only where it was written to.
+/// In a state that a legal history leads to, each page of a file is one that the file has. It is in its
+/// frame, or in transfer between that and its own home block. One that is being written out is dirty. Memory
+/// is never dirty.
 pub fn file_pages_stay_at_home()
     ensures { FilePagesStayAtHome }
 {}
 
-/// Whatever state a run's history leads to, a page of a file is there once, whoever reaches for it.
+/// In a state that a legal history leads to, no two pages hold the same page of a file.
 pub fn file_pages_are_one()
     ensures { FilePagesAreOne }
 {}
 
-/// A page that is dropped, and not written out, is of a file, and was not written to since its home block
-/// had its bytes.
+/// A page that a step drops is of a file, and was not written to since its home block had its bytes. (Unfolds
+/// `LeavesBy`.)
 pub fn only_clean_pages_are_dropped()
     ensures { OnlyCleanPagesAreDropped }
 {}
@@ -289,85 +308,89 @@ pub fn stat_adds_up_to_current()
     ensures { StatAddsUpToCurrent }
 {}
 
-/// Whatever state a run's history leads to, each virtual page that is mapped shows a page that is
-/// there, and that is memory of tasks.
+/// In a state that a legal history leads to, each virtual page that maps a page maps one that exists, and
+/// that is memory.
 pub fn mappings_show_pages()
     ensures { MappingsShowPages }
 {}
 
-/// Whatever state a run's history leads to, each page of memory that is in no transfer is shown by a virtual
-/// page of a live task: it goes with its last mapper.
+/// In a state that a legal history leads to, each page of memory that is in no transfer is mapped by a
+/// virtual page of a live task. So it goes with its last mapping, or at the end of its transfer.
 pub fn memory_without_a_mapping_is_gone()
     ensures { MemoryWithoutAMappingIsGone }
 {}
 
-/// Whatever state a run's history leads to, two virtual pages that show one page have one last write at
-/// each offset.
+/// In a state that a legal history leads to, two virtual pages that map one page have the same last write at
+/// each offset. (This excludes a shared page that is written in place, with the write in only one of them.)
 pub fn shared_bytes_agree()
     ensures { SharedBytesAgree }
 {}
 
-/// A child begins in its parent's group, shows what its parent shows, and has its parent's bytes. No page
-/// changes with a fork, and no group's count does.
+/// After a fork the child is alive in its parent's group, maps what its parent maps, and has its parent's
+/// bytes. What every other task maps, each page, and the count of each group are as they were. (Unfolds
+/// `Forks`.)
 pub fn forks_share()
     ensures { ForksShare }
 {}
 
-/// A task that moves to another group takes no charge along: no page changes, and no group's count does.
+/// After a move the task is in the new group. Each page and the count of each group are as they were.
+/// (Unfolds `Attaches`.)
 pub fn moves_take_no_charge()
     ensures { MovesTakeNoCharge }
 {}
 
-/// A group that is removed leaves the count of every other group as it was, so those of the groups above
-/// it. And each event stays counted, for each group.
+/// In a state that a legal history leads to, the removal of a group leaves the count of every other group as
+/// it was, so of each above it. Each number of `memory.events` stays, at each group, and at and below it.
 pub fn removals_keep_ancestors_counts()
     ensures { RemovalsKeepAncestorsCounts }
 {}
 
-/// Whatever state a run's history leads to, a group that is not there has no page, and nothing is charged
-/// to it. So all pages of a group go elsewhere when it is removed.
+/// In a state that a legal history leads to, a group that does not exist has no page: none in a frame, in
+/// transfer or on its block. Nothing is charged to it. So all pages of a group go elsewhere with its removal.
 pub fn removed_groups_have_no_pages()
     ensures { RemovedGroupsHaveNoPages }
 {}
 
-/// Whatever state a run's history leads to, its entries and the transfers in flight are together no
-/// more than the trace's limit. So each transfer has room for the entry of its end.
+/// In a state that a legal history leads to, the entries and the pages in transfer are together no more than
+/// the trace's limit. So each transfer has room for the entry of its end.
 pub fn trace_has_room()
     ensures { TraceHasRoom }
 {}
 
-/// Whatever state a run's history leads to, as many transfers are in flight as its entries began less
-/// those that they ended.
+/// In a state that a legal history leads to, the number of pages in transfer is that of the entries that
+/// began a transfer, less those that ended one.
 pub fn transfers_are_begun_less_ended()
     ensures { TransfersAreBegunLessEnded }
 {}
 
-/// Whatever state a run's history leads to, the group of each page and of each live task is there.
+/// In a state that a legal history leads to, the group of each page and of each live task exists.
 pub fn groups_are_there()
     ensures { GroupsAreThere }
 {}
 
-/// Whatever state a run's history leads to, the root is not to be killed as one: its `memory.oom.group` is never
-/// set.
+/// In a state that a legal history leads to, the root's `memory.oom.group` is not set. So the root is never
+/// killed as one.
 pub fn root_is_never_flagged()
     ensures { RootIsNeverFlagged }
 {}
 
-/// A group's `memory.max`, `memory.min`, `memory.low` and `memory.oom.group` are what they were, or the event sets the one
-/// that is another now. A new group has none of them. A setting that nothing refuses is done.
+/// A group has each max, min, low and flag after a step that it had before, or the step is the `Set` of that
+/// setting at that group. So no kill, move, removal or other setting changes one, and a removed group's
+/// number keeps its own. In a state that a legal history leads to, a new group begins with no max, no
+/// protection and no flag. A `Set` that nothing refuses leaves the group with what it sets.
 pub fn only_sets_change_settings()
     ensures { OnlySetsChangeSettings }
 {}
 
-/// What a call answers is settled by the past, the caller and the event. Two answers, neither of them for
-/// want of memory, differ at most in the numbers of new tickets and in the byte of a read, which is the
-/// one last written.
+/// Two answers to one event of one caller from one past, neither for lack of memory, differ at most in the
+/// numbers of new tickets and in the byte of a read. That byte is the one last written. So the definitions
+/// leave no other answer open.
 pub fn replies_are_settled()
     ensures { RepliesAreSettled }
 {}
 
-/// In which order pages will leave is settled by the answer of a call and the state that it leaves: lists,
-/// marks and cursors are the same then.
+/// Two calls of one caller from one past that answer one event alike and leave one state leave the same
+/// lists, marks and cursors. So, with the state, nothing of the order is left open.
 pub fn orders_are_settled()
     ensures { OrdersAreSettled }
 {}
