@@ -172,7 +172,7 @@ static void check_statuses(void)
         free_both(&answer);
     }
     EXPECT(CHECKED, "cat / cgroup.procs\n#> error ENOENT\n", NULL, MEMCGRUN_OK, "script: ok, 1 answer\n", "");
-    EXPECT(CHECKED, "rmdir /\n#> error ENOENT\n", NULL, MEMCGRUN_DIFFERS, "script:2: wanted error ENOENT, and got error EBUSY\n", "");
+    EXPECT(CHECKED, "rmdir /\n#> error ENOENT\n", NULL, MEMCGRUN_DIFFERS, "script:2: expected error ENOENT, got error EBUSY\n", "");
     answer = ask(TABLE, reads, NULL);
     CHECK(answer.status == MEMCGRUN_OK && has(&answer.out, "line,group,current,") && answer.err.len == 0);
     free_both(&answer);

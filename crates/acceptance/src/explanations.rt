@@ -8,13 +8,13 @@ fn a_byte_that_is_no_text_and_a_mark_of_the_encoding_are_named(rt: HostRuntime) 
         &rt,
         "a byte that no character has",
         b"group /a\nfoo\xff\n",
-        "case:2: not text\nbyte 4 of the line, 0xff, is part of no character of UTF-8\n",
+        "case:2: not text\nbyte 4 of the line, 0xff, is not valid UTF-8\n",
     );
     explains(
         &rt,
         "a character that is cut off",
         b"# \xc3\n",
-        "case:1: not text\nbyte 3 of the line, 0xc3, is part of no character of UTF-8\n",
+        "case:1: not text\nbyte 3 of the line, 0xc3, is not valid UTF-8\n",
     );
     explains(
         &rt,
@@ -23,7 +23,7 @@ fn a_byte_that_is_no_text_and_a_mark_of_the_encoding_are_named(rt: HostRuntime) 
         "case:1: unknown word\nword 1, \"\\u{feff}group\", begins with a byte order mark, which no script may have\n",
     );
     let utf16 =
-        "case:1: not text\nthe script begins with a byte order mark of UTF-16, and has to be UTF-8\n";
+        "case:1: not text\nthe script is UTF-16; save it as UTF-8\n";
     explains(
         &rt,
         "a mark of UTF-16, low byte first",
@@ -56,7 +56,7 @@ fn control_characters_are_written_out(rt: HostRuntime) {
         &rt,
         "an escape sequence",
         b"group /\x1b[1m\n",
-        "case:1: bad name\nword 2, \"/\\u{1b}[1m\", is no path: it has the character '\\u{1b}', which no name has\n",
+        "case:1: bad name\nword 2 (\"/\\u{1b}[1m\") is not a group's path: it has the character '\\u{1b}'; names have A-Z a-z 0-9 . _ and - only\n",
     );
     explains_refusals(
         &rt,

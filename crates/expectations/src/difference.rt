@@ -48,17 +48,13 @@ impl fmt::Display for Difference<'_> {
     fn fmt<W: fmt::Write>(&self, f: &mut fmt::Formatter<W>) -> fmt::Result {
         match *self {
             Difference::Other { line, wanted, got } => {
-                write!(f, "{line}: wanted {}, and got {}", Text(wanted), Text(got))
+                write!(f, "{line}: expected {}, got {}", Text(wanted), Text(got))
             }
             Difference::Nothing { line, wanted } => {
-                write!(
-                    f,
-                    "{line}: wanted {}, and nothing was answered",
-                    Text(wanted)
-                )
+                write!(f, "{line}: expected {}, got nothing", Text(wanted))
             }
             Difference::Unexpected { line, got } => {
-                write!(f, "{line}: answered {}, which nothing expects", Text(got))
+                write!(f, "{line}: unexpected {}", Text(got))
             }
         }
     }

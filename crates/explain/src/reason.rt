@@ -118,115 +118,118 @@ pub enum Reason<'a> {
 impl fmt::Display for Reason<'_> {
     fn fmt<W: Write>(&self, f: &mut Formatter<W>) -> fmt::Result {
         match self {
-            Reason::Idle(actor) => write!(f, "{} has no command under way", Named(*actor)),
+            Reason::Idle(actor) => write!(f, "{} has no command in progress", Named(*actor)),
             Reason::Underway { actor, line } => write!(
                 f,
-                "the command of line {line} is not answered yet, and {} has one at a time",
+                "{} is still busy with the command of line {line}",
                 Named(*actor)
             ),
             Reason::TurnLimit(turns) => write!(
                 f,
-                "{turns} turns brought no answer, and the command stays under way"
+                "no answer after {turns} turns; the command stays in progress (--turns N allows more)"
             ),
             Reason::PageOnItsWay => f.write_str(
-                "the page is on its way, or room for it may come of one that is",
+                "the page is in transfer, or room for it depends on a page in transfer",
             ),
             Reason::RoomOnItsWay(path) => write!(
                 f,
-                "a page of {path} or below it is on its way, and no other can be taken"
+                "a page of {path} or below is in transfer, and no other page there can be reclaimed"
             ),
             Reason::AccessFailed => f.write_str(
-                "a call of the device failed: the page was not read in, or none written out to make room",
+                "the device failed: the page could not be read in, or no page could be written out to make room",
             ),
             Reason::WriteFailed => {
-                f.write_str("a call of the device failed: a page was not written out")
+                f.write_str("the device failed: a page could not be written out")
             }
             Reason::NobodyLeft => f.write_str(
-                "there is no room, no page can be taken, and no task is left that could be killed",
+                "there is no room, no page can be reclaimed, and no task is left to kill",
             ),
             Reason::NothingLeft(path) => write!(
                 f,
-                "no page of {path} or below it can be taken any more"
+                "no page of {path} or below can be reclaimed any more"
             ),
-            Reason::GroupThere(path) => write!(f, "there is a group {path} already"),
+            Reason::GroupThere(path) => write!(f, "the group {path} already exists"),
             Reason::NoGroup(path) => write!(f, "there is no group {path}"),
             Reason::NoGroupNow(path) => write!(
                 f,
-                "there is no group {path}, or it was removed meanwhile"
+                "there is no group {path}, or it was removed during the command"
             ),
-            Reason::NoParent(path) => write!(
-                f,
-                "there is no group {path}, which would be its parent"
-            ),
+            Reason::NoParent(path) => write!(f, "the parent group {path} does not exist"),
             Reason::NotModelled(file) => {
                 write_name(f, file)?;
                 f.write_str(" is not modelled")
             }
             Reason::RootLacks(file) => write!(
                 f,
-                "the root has no {file}, and of the control files memory.reclaim alone"
+                "the root has no {file}; its only control file is memory.reclaim"
             ),
             Reason::NotBelow { target, path } => write!(f, "{path} is not below {target}"),
             Reason::HasTasks(path) => write!(
                 f,
-                "{path} has live tasks, and so can have no groups below it"
+                "{path} has live tasks, so it cannot have child groups"
             ),
             Reason::HasGroups(path) => write!(
                 f,
-                "{path} has groups below it, and so can have no tasks"
+                "{path} has child groups, so it cannot have tasks"
             ),
-            Reason::InUse(path) => write!(f, "{path} has groups below it, or live tasks"),
-            Reason::RootStays => f.write_str("the root can't be removed"),
+            Reason::InUse(path) => write!(f, "{path} has child groups or live tasks"),
+            Reason::RootStays => f.write_str("the root cannot be removed"),
             Reason::TooDeep(levels) => write!(
                 f,
-                "it would be {levels} levels below the root, and {MOST_LEVELS} are the most"
+                "the group would be {levels} levels below the root; at most {MOST_LEVELS} are allowed"
             ),
             Reason::GroupsFull => write!(
                 f,
-                "there are {MOST_GROUPS} groups already, the root counted, which are the most"
+                "the machine has {MOST_GROUPS} groups already, the root included; no more are possible"
             ),
-            Reason::TasksFull => write!(f, "{MOST_TASKS} tasks live already, which are the most"),
+            Reason::TasksFull => write!(
+                f,
+                "{MOST_TASKS} tasks are alive already; no more are possible"
+            ),
             Reason::NoTaskNumber(task) => write!(
                 f,
-                "{task} is no number of a task: these go from 1 to {LAST_TASK}"
+                "{task} is not a task's number; use 1 to {LAST_TASK}"
             ),
-            Reason::NumberUsed(task) => write!(f, "a task had the number {task} before"),
-            Reason::NoTask(task) => {
-                write!(f, "task {task} was never started, or has ended by exit")
-            }
+            Reason::NumberUsed(task) => write!(
+                f,
+                "an earlier task had the number {task}; use another number"
+            ),
+            Reason::NoTask(task) => { write!(f, "task {task} was never started, or has exited") }
             Reason::NoLiveTask(task) => write!(
                 f,
-                "task {task} was never started, has ended by exit, or was killed"
+                "task {task} was never started, has exited, or was killed"
             ),
             Reason::PagePast(page) => write!(
                 f,
-                "page {page} is past {}, the last of a task",
+                "page {page} is above {}, the last page of a task",
                 TASK_PAGES - 1
             ),
             Reason::OffsetPast(offset) => write!(
                 f,
-                "offset {offset} is past {LAST_OFFSET}, the last of a page"
+                "offset {offset} is above {LAST_OFFSET}, the last byte of a page"
             ),
             Reason::NoFile(name) => write!(f, "there is no file {name}"),
             Reason::FilePagePast { name, page } => write!(f, "the file {name} has no page {page}"),
             Reason::NoAmount(text) => write!(
                 f,
-                "{text:?} is no amount: max, or a number of bytes without a zero in front, with K, M, G or T behind it or none of them"
+                "{text:?} is not an amount; write max, or bytes such as 4096, 64K, 64M, 64G or 64T, with no leading zero"
             ),
             Reason::AmountTooLarge(text) => write!(
                 f,
-                "{text} is no amount: it is more than {} bytes",
+                "{text} is too large; the largest amount is {} bytes",
                 u64::MAX
             ),
-            Reason::NoFlag(text) => write!(f, "{text:?} is no flag: 0, or 1"),
-            Reason::MaxReclaimed => f.write_str("max is no amount for memory.reclaim"),
-            Reason::NotWritten(file) => write!(f, "{file} can't be written"),
-            Reason::NotRead(file) => write!(f, "{file} can't be read"),
-            Reason::NoPath(path) => write!(f, "{path:?} is no path of a group"),
-            Reason::TraceFull => f.write_str(
-                "the trace has no room left for it; a line trace N of the header gives it room for N entries",
+            Reason::NoFlag(text) => write!(f, "{text:?} is not a flag; write 0 or 1"),
+            Reason::MaxReclaimed => f.write_str(
+                "memory.reclaim does not take max; write a number of bytes",
             ),
-            Reason::NoMemory => f.write_str("the program itself got no memory"),
+            Reason::NotWritten(file) => write!(f, "{file} is read-only"),
+            Reason::NotRead(file) => write!(f, "{file} is write-only"),
+            Reason::NoPath(path) => write!(f, "{path:?} is not a group's path"),
+            Reason::TraceFull => f.write_str(
+                "the trace is full; put \"trace N\" at the top of the script to make room for N entries",
+            ),
+            Reason::NoMemory => f.write_str("the program itself is out of memory"),
         }
     }
 }

@@ -14,15 +14,14 @@ pub struct Placed<'a> {
     pub text: &'a str,
 }
 
-/// In quotes, with its control characters written out, and a comma behind it. The end of a long word is
-/// left out.
+/// In quotes, with its control characters written out, and in brackets. The end of a long word is left out.
 impl fmt::Display for Placed<'_> {
     fn fmt<W: Write>(&self, f: &mut Formatter<W>) -> fmt::Result {
-        write!(f, "word {}, ", self.number)?;
+        write!(f, "word {} (", self.number)?;
         let cut = self.text.char_indices().nth(MOST_SHOWN);
         match cut.and_then(|(at, _)| self.text.get(..at)) {
-            Some(front) => write!(f, "{front:?}..,"),
-            None => write!(f, "{:?},", self.text),
+            Some(front) => write!(f, "{front:?}..)"),
+            None => write!(f, "{:?})", self.text),
         }
     }
 }
@@ -45,11 +44,11 @@ impl fmt::Display for Wanted {
     }
 }
 
-/// How many words stand behind the first of a line of this form.
+/// How many arguments the first word of a line of this form takes.
 #[derive(Clone, Copy)]
-struct Behind(Form);
+struct Takes(Form);
 
-impl fmt::Display for Behind {
+impl fmt::Display for Takes {
     fn fmt<W: Write>(&self, f: &mut Formatter<W>) -> fmt::Result {
         let Form {
             name,
@@ -57,9 +56,9 @@ impl fmt::Display for Behind {
             ..
         } = self.0;
         match arguments.len() {
-            0 => write!(f, "no word stands behind {name}"),
-            1 => write!(f, "1 word stands behind {name}"),
-            count => write!(f, "{count} words stand behind {name}"),
+            0 => write!(f, "{name} takes no arguments"),
+            1 => write!(f, "{name} takes 1 argument"),
+            count => write!(f, "{name} takes {count} arguments"),
         }
     }
 }
@@ -78,14 +77,14 @@ pub enum BadPath<'a> {
 impl fmt::Display for BadPath<'_> {
     fn fmt<W: Write>(&self, f: &mut Formatter<W>) -> fmt::Result {
         match self {
-            BadPath::NoSlash => f.write_str("begins with no slash"),
+            BadPath::NoSlash => f.write_str("does not begin with a slash"),
             BadPath::SlashAtTheEnd => f.write_str("ends with a slash"),
-            BadPath::EmptyName => f.write_str("has two slashes with no name between"),
+            BadPath::EmptyName => f.write_str("has an empty name"),
             BadPath::LongName => f.write_str("has a name of more than 32 characters"),
-            BadPath::Dots(name) => write!(f, "has the name {name:?}, which no group has"),
+            BadPath::Dots(name) => write!(f, "has the name {name:?}, which is not allowed"),
             BadPath::Character(found) => write!(
                 f,
-                "has the character {found:?}, which no name has"
+                "has the character {found:?}; names have A-Z a-z 0-9 . _ and - only"
             ),
         }
     }
@@ -103,7 +102,7 @@ pub enum Why<'a> {
     },
     /// The script begins with a mark that is a character.
     ByteOrderMark(Placed<'a>),
-    /// No line begins with the word.
+    /// The word is none of the language.
     NoWord(Placed<'a>),
     /// The word is one of a task's, and no task's number stands before.
     TaskWord(Placed<'a>),
@@ -156,83 +155,77 @@ pub enum Why<'a> {
 
 const TASK_WORDS: &str = "write, read, fwrite, fread, fork, free or exit";
 
+const LINE_WORDS: &str =
+    "a task's number, group, rmdir, task, attach, set, cat, prot, lowprot, daemon, begin, step, finish, go or a word of the header";
+
 impl fmt::Display for Why<'_> {
     fn fmt<W: Write>(&self, f: &mut Formatter<W>) -> fmt::Result {
         match self {
-            Why::Utf16 => f.write_str(
-                "the script begins with a byte order mark of UTF-16, and has to be UTF-8",
-            ),
+            Why::Utf16 => f.write_str("the script is UTF-16; save it as UTF-8"),
             Why::NoCharacter { place, byte } => write!(
                 f,
-                "byte {place} of the line, 0x{byte:02x}, is part of no character of UTF-8"
+                "byte {place} of the line, 0x{byte:02x}, is not valid UTF-8"
             ),
             Why::ByteOrderMark(word) => write!(
                 f,
-                "{word} begins with a byte order mark, which no script may have"
+                "{word} begins with a byte order mark; save the script without it"
             ),
-            Why::NoWord(word) => write!(f, "{word} is none that a line begins with"),
-            Why::TaskWord(word) => write!(
+            Why::NoWord(word) => write!(
                 f,
-                "{word} is a task's, and no task's number stands before it"
+                "{word} is not a command; a line begins with {LINE_WORDS}"
             ),
-            Why::NoTaskWord(word) => write!(
-                f,
-                "{word} is no task's: behind its number stands {TASK_WORDS}"
-            ),
-            Why::NotBegun(word) => write!(f, "{word} does not stand behind begin"),
+            Why::TaskWord(word) => write!(f, "{word} needs a task's number before it"),
+            Why::NoTaskWord(word) => write!(f, "{word} is not a task's command; use {TASK_WORDS}"),
+            Why::NotBegun(word) => write!(f, "{word} cannot follow begin"),
             Why::Misfit(word, kind) => write!(f, "{word} is not {}", Wanted(*kind)),
             Why::NoTaskWordAt(number) => write!(
                 f,
-                "word {number} is missing: behind a task's number stands {TASK_WORDS}"
+                "word {number} is missing; after a task's number use {TASK_WORDS}"
             ),
             Why::NoLineAt(number) => write!(
                 f,
-                "word {number} is missing: behind begin stands a line"
+                "word {number} is missing; begin is followed by a command"
             ),
             Why::Missing { number, form, kind } => write!(
                 f,
-                "word {number} is missing, {}: {}",
+                "word {number} ({}) is missing: {}",
                 Wanted(*kind),
-                Behind(*form)
+                Takes(*form)
             ),
-            Why::Extra(word, form) => write!(f, "{word} is one too many: {}", Behind(*form)),
-            Why::NotDigits(word, kind) => write!(
-                f,
-                "{word} is not of decimal digits alone: it has to be {}",
-                Wanted(*kind)
-            ),
-            Why::Below(word, least) => write!(f, "{word} is below {least}"),
-            Why::Above(word, most) => write!(f, "{word} is above {most}"),
+            Why::Extra(word, form) => write!(f, "{word} is one too many: {}", Takes(*form)),
+            Why::NotDigits(word, kind) => write!(f, "{word} is not {}", Wanted(*kind)),
+            Why::Below(word, least) => write!(f, "{word} is below {least}, the smallest allowed"),
+            Why::Above(word, most) => write!(f, "{word} is above {most}, the largest allowed"),
             Why::MarksTurned(low, high) => write!(
                 f,
-                "{low} is above {high} which has to be at least as large"
+                "{low} is above {high}; the low watermark must not be above the high one"
             ),
             Why::MarkAboveFrames(high, frames) => write!(
                 f,
-                "{high} is above {frames}, which are the frames"
+                "{high} is above the number of frames, {frames}"
             ),
-            Why::Path(word, path) => write!(f, "{word} is no path: it {path}"),
-            Why::Name(word, path) => write!(f, "{word} is no name of a file: it {path}"),
+            Why::Path(word, path) => write!(f, "{word} is not a group's path: it {path}"),
+            Why::Name(word, path) => write!(f, "{word} is not a file's name: it {path}"),
             Why::HeaderEnded { line, name } => write!(
                 f,
-                "{name} has to stand above line {line}, which is not of the header"
+                "{name} must come before line {line}, which ends the header"
             ),
-            Why::Twice { line, name } => write!(f, "line {line} has {name} already"),
+            Why::Twice { line, name } => write!(f, "line {line} already has {name}"),
             Why::FileTwice(word, line) => write!(
                 f,
-                "{word} is the name of the file of line {line}"
+                "{word} is already the name of the file in line {line}"
             ),
             Why::FilesFull(most) => write!(
                 f,
-                "{most} files stand before, and there can be no more"
+                "there are {most} files already; no more are possible"
             ),
             Why::BlocksFull(most) => write!(
                 f,
-                "swap and the files up to this line have more than {most} blocks together"
+                "swap and the files up to this line need more than {most} blocks"
             ),
             Why::OnlyInSchedule(word) => write!(
                 f,
-                "{word} is for schedule alone: a run on threads has no turns to count"
+                "{word} works in a schedule only; threads take no turns"
             ),
         }
     }

@@ -29,11 +29,11 @@ pub fn tell_no_script<E: Write>(err: &mut E, name: &str, error: &io::Error) {
     // The status tells of the failure even where its line can't be written.
     let _ = match error.kind() {
         ErrorKind::NotFound if name.is_empty() => {
-            writeln!(err, "memcgrun: {name:?} is no name of a file")
+            writeln!(err, "memcgrun: the file name is empty")
         }
         ErrorKind::NotFound => writeln!(err, "memcgrun: there is no file {name:?}"),
         ErrorKind::IsADirectory => writeln!(err, "memcgrun: {name:?} is a directory"),
-        _ => writeln!(err, "memcgrun: {name:?} can't be opened: {error}"),
+        _ => writeln!(err, "memcgrun: cannot open {name:?}: {error}"),
     };
 }
 
@@ -62,10 +62,10 @@ pub fn tell_no_text<R: Env, E: Write>(rt: &R, err: &mut E) {
     let _ = match found.and_then(|(at, length)| Some((at, buffer.get(..length)?))) {
         Some((at, word)) => writeln!(
             err,
-            "memcgrun: word {at} of the command line, \"{}\", is not UTF-8",
+            "memcgrun: argument {at}, \"{}\", is not UTF-8",
             word.escape_ascii()
         ),
-        None => writeln!(err, "memcgrun: a word of the command line is not UTF-8"),
+        None => writeln!(err, "memcgrun: an argument is not UTF-8"),
     };
 }
 
@@ -80,7 +80,7 @@ mod tests {
             (
                 "",
                 ErrorKind::NotFound,
-                "memcgrun: \"\" is no name of a file\n",
+                "memcgrun: the file name is empty\n",
             ),
             (
                 "a b",
@@ -105,7 +105,7 @@ mod tests {
             (
                 "a",
                 ErrorKind::PermissionDenied,
-                "memcgrun: \"a\" can't be opened: permission denied\n",
+                "memcgrun: cannot open \"a\": permission denied\n",
             ),
         ];
         for (name, kind, line) in rows {
@@ -156,11 +156,11 @@ mod tests {
         let rows: [([&'static [u8]; 3], &str); 2] = [
             (
                 [b"memcgrun", b"schedule", b"a\xff\n"],
-                "memcgrun: word 2 of the command line, \"a\\xff\\n\", is not UTF-8\n",
+                "memcgrun: argument 2, \"a\\xff\\n\", is not UTF-8\n",
             ),
             (
                 [b"memcgrun", b"schedule", b"a"],
-                "memcgrun: a word of the command line is not UTF-8\n",
+                "memcgrun: an argument is not UTF-8\n",
             ),
         ];
         for (words, line) in rows {

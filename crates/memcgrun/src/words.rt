@@ -100,14 +100,14 @@ fn script<'a>(alloc: Global) -> Arg<'a> {
     Arg::new(alloc, "FILE")
         .required(true)
         .action(ArgAction::Set)
-        .help("The script")
+        .help("Script to run")
 }
 
 fn as_linux<'a>(alloc: Global) -> Arg<'a> {
     flag(
         alloc,
         AS_LINUX,
-        "Place pages that are read in as Linux does, and not by a rule of our own",
+        "Put pages that are read in on the generation lists as Linux does",
     )
 }
 
@@ -124,7 +124,7 @@ fn explain<'a>(alloc: Global) -> Arg<'a> {
     flag(
         alloc,
         EXPLAIN,
-        "Say more of a faulty line, in a second line",
+        "Print a second line that says what is wrong with a faulty line",
     )
 }
 
@@ -133,7 +133,7 @@ fn turns<'a>(alloc: Global) -> Arg<'a> {
         .long(TURNS)
         .action(ArgAction::Set)
         .value_parser(value_parser!(u32).range(1..))
-        .help("The most turns of a line, 1,000 where this is not given")
+        .help("Maximum number of turns per line [default: 1000]")
         .value_name("N")
 }
 
@@ -141,23 +141,19 @@ fn progress<'a>(alloc: Global) -> Arg<'a> {
     flag(
         alloc,
         PROGRESS,
-        "Show on a terminal how many lines are done",
+        "Show the number of finished lines on a terminal",
     )
 }
 
 fn summary<'a>(alloc: Global) -> Arg<'a> {
-    flag(
-        alloc,
-        SUMMARY,
-        "Say at the end how much was done, on standard error",
-    )
+    flag(alloc, SUMMARY, "Print totals at the end, on standard error")
 }
 
 fn unbuffered<'a>(alloc: Global) -> Arg<'a> {
     flag(
         alloc,
         UNBUFFERED,
-        "Write each answer as it comes, to a file or a pipe too",
+        "Write each answer at once, even to a file or a pipe",
     )
 }
 
@@ -165,31 +161,31 @@ fn schedule<'a>(alloc: Global) -> Result<Command<'a>, AllocError> {
     let audit = flag(
         alloc,
         AUDIT,
-        "Say behind the last answer what an audit of the run finds",
+        "After the last answer, print the result of auditing the run",
     );
     let explain = flag(
         alloc,
         EXPLAIN,
-        "Say why each line was refused and each task killed, on standard error, and more of a faulty line",
+        "Print why each line failed and each task was killed, on standard error",
     );
     let labels = flag(
         alloc,
         LABELS,
-        "Put the number of its line and its words before each line of an answer",
+        "Print the number and the text of its line before each answer",
     );
     let lines = flag(
         alloc,
         LINES,
-        "Put the number of its line before each line of an answer",
+        "Print the number of its line before each answer",
     );
-    let quiet = flag(alloc, QUIET, "Leave out the bytes that tasks read");
+    let quiet = flag(alloc, QUIET, "Do not print the bytes that tasks read");
     let strict = flag(
         alloc,
         STRICT,
-        "End the run at the first line that is refused, and say why",
+        "Stop at the first line that fails, and say why",
     );
     Command::new(alloc, "schedule")
-        .about("Runs a script, one turn after another")
+        .about("Run a script line by line and print the answers")
         .arg(script(alloc))?
         .arg(as_linux(alloc))?
         .arg(audit)?
@@ -206,20 +202,16 @@ fn schedule<'a>(alloc: Global) -> Result<Command<'a>, AllocError> {
 
 fn run<'a>(alloc: Global) -> Result<Command<'a>, AllocError> {
     Command::new(alloc, "run")
-        .about("Runs a script on threads, one for each actor")
+        .about("Run a script with one thread for each task")
         .arg(script(alloc))?
         .arg(as_linux(alloc))?
         .arg(explain(alloc))
 }
 
 fn chart<'a>(alloc: Global) -> Result<Command<'a>, AllocError> {
-    let csv = flag(
-        alloc,
-        CSV,
-        "Write a table for plotting tools in place of the picture",
-    );
+    let csv = flag(alloc, CSV, "Print a CSV table instead of the picture");
     Command::new(alloc, "chart")
-        .about("Draws memory.current of each group over the lines of a script, as SVG")
+        .about("Draw memory.current of each group over the lines of a script, as SVG")
         .arg(script(alloc))?
         .arg(as_linux(alloc))?
         .arg(csv)?
@@ -232,16 +224,16 @@ fn check<'a>(alloc: Global) -> Result<Command<'a>, AllocError> {
         .required(true)
         .num_args(1..)
         .action(ArgAction::Append)
-        .help("The scripts");
+        .help("Scripts to check");
     Command::new(alloc, "check")
-        .about("Says whether scripts print what their lines `#> ..` expect")
+        .about("Compare the output of scripts with their `#> ..` lines")
         .arg(scripts)?
         .arg(as_linux(alloc))
 }
 
 fn command<'a>(alloc: Global) -> Result<Command<'a>, AllocError> {
     Command::new(alloc, "memcgrun")
-        .about("Runs scripts of memory control groups")
+        .about("Simulate the memory controller of Linux cgroup v2")
         .version(VERSION)
         .subcommand_required(true)
         .subcommand(schedule(alloc)?)?

@@ -150,12 +150,12 @@ impl fmt::Display for Wanted {
         match self.blocks.saturating_sub(self.swap) {
             0 => write!(
                 f,
-                "NoMemory: its {} frames and {} swap blocks want at least {bytes} bytes",
+                "NoMemory: {} frames and {} swap blocks need at least {bytes} bytes",
                 self.frames, self.swap
             ),
             files => write!(
                 f,
-                "NoMemory: its {} frames, {} swap blocks and {files} pages of files want at least {bytes} bytes",
+                "NoMemory: {} frames, {} swap blocks and {files} pages of files need at least {bytes} bytes",
                 self.frames, self.swap
             ),
         }
