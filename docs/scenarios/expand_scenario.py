@@ -1,5 +1,5 @@
 #!/usr/bin/env python3
-"""Prints the script that a scenario stands for. It is a second opinion, written apart from the program, for tests to hold `memcgrun expand` against.
+"""Expands a scenario into its script. It was written independently of `memcgrun expand`, as a second opinion for tests.
 
     expand_scenario.py FILE [--set NAME=WORD].. [--cuts N,N,..]
     expand_scenario.py FILE [--set NAME=WORD].. --run PROGRAM [--go-on]
@@ -114,7 +114,7 @@ class Expansion:
         return count
 
     def count_early(self, word, words):
-        """A faulty page is told first. Of memory and swap a fault is told in its turn."""
+        """Reads a line that counts for all lines. A faulty page is reported at once, a faulty memory or swap in the order of the lines."""
         try:
             words.at = 1
             getattr(self, 'read_' + word)(words)
@@ -265,7 +265,7 @@ class Expansion:
         return words
 
     def cut(self, longest, condition, words):
-        """What is left of a list with `until`. If its length isn't known the script ends with the longest list; behind it only faults are looked for."""
+        """What is left of a list with `until`. If its length isn't known, the script ends with the longest list, and the rest is only searched for faults."""
         marks, places = dict(self.marks), dict(self.places)
         self.in_until = True
         made = longest()
@@ -304,7 +304,7 @@ class Expansion:
         word = first.plain
         self.said = str(words)
         if word in HEADER:
-            raise first.fault('the header stands before all other lines')
+            raise first.fault('the header comes before all other lines')
         if word in ('let', 'show', 'mark', 'expect', 'group', 'set', 'reclaim', 'rmdir', 'task', 'attach', 'daemon', 'raw'):
             if word == 'let':
                 self.let(words)
@@ -354,17 +354,17 @@ class Expansion:
         return str(rounding(word) * SCRIPT_PAGE)
 
     def part(self, word, most):
-        """The pages of a part, the first and the one behind the last."""
+        """The first page of a part, and the one after its last."""
         begin, dots, end = word.text.partition('..')
         if word.has_quotes or not dots:
             raise word.fault('expected a part, as 0..5M')
         page = self.header.page
         if size_of(word, begin, page) >= size_of(word, end, page):
             raise word.fault('an empty part')
-        first, behind = self.round_size(word, begin, False), self.round_size(word, end, True)
-        if behind > most:
-            raise word.fault(f'page {behind - 1}, and there are {most}')
-        return first, behind
+        first, after = self.round_size(word, begin, False), self.round_size(word, end, True)
+        if after > most:
+            raise word.fault(f'page {after - 1}, and there are {most}')
+        return first, after
 
     # Groups.
 
@@ -529,19 +529,19 @@ class Expansion:
 
     def act_free(self, words, line, task):
         mark = self.marks.get(task, 0)
-        first, end, behind = 0, mark, 0
+        first, end, lowered = 0, mark, 0
         if word := words.next_or_none():
             if '..' in word.text:
                 first, end = self.part(word, TASK_PAGES)
-                behind = first if end == mark else mark
+                lowered = first if end == mark else mark
             else:
                 pages = self.down(word)
                 if pages > mark and self.until is None:
                     raise word.fault(f'{pages} pages, and the task has {mark}')
-                first = behind = max(mark - pages, 0)
+                first = lowered = max(mark - pages, 0)
         made = [self.entry(line, f'{task} free {page}') for page in range(first, end)]
         if made:
-            made[-1].effects = (('mark', task, behind),)
+            made[-1].effects = (('mark', task, lowered),)
             self.apply(made[-1].effects)
         return made
 
@@ -694,13 +694,13 @@ def lets_of(items):
 
 
 def main():
-    parser = argparse.ArgumentParser(description='Prints the script that a scenario stands for.')
+    parser = argparse.ArgumentParser(description='Prints the script of a scenario, or runs it.')
     parser.add_argument('file', nargs='?', metavar='FILE')
-    parser.add_argument('--set', action='append', default=[], type=setting, metavar='NAME=WORD', help='put WORD in the place of what let NAME says')
+    parser.add_argument('--set', action='append', default=[], type=setting, metavar='NAME=WORD', help='use WORD in place of the word that let NAME gives')
     parser.add_argument('--cuts', default='', metavar='N,N,..', help='the lengths at which the lists of until are cut, in their order')
     parser.add_argument('--run', metavar='PROGRAM', help='carry out the scenario with this program')
-    parser.add_argument('--go-on', action='store_true', help='go on behind a line that is refused')
-    parser.add_argument('--self-test', action='store_true', help='hold the expansion against the tables of the language')
+    parser.add_argument('--go-on', action='store_true', help='go on after a line that is refused')
+    parser.add_argument('--self-test', action='store_true', help='compare the expansion with the tables of the language')
     options = parser.parse_args()
     if options.self_test:
         import self_test

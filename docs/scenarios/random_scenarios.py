@@ -1,5 +1,5 @@
 #!/usr/bin/env python3
-"""Writes random scenarios, which use each construct of the language and run in some milliseconds, for two expanders to be held against each other.
+"""Writes random scenarios, to compare two expanders. They use each construct of the language and run in some milliseconds.
 
     random_scenarios.py N SEED DIRECTORY [--faulty]
 
@@ -21,7 +21,7 @@ MOST_LINES = 1_500
 # Where a mistake is, in the place of the @ below, which is a character of names too.
 MARK = '\0'
 
-# Lines with one mistake, at the word behind @ or, at a line's end, behind the last word. T is a task that is there, G its group, F a file.
+# Lines with one mistake, at the word after @, or after the last word if the line ends with @. T is an existing task, G a group, F a file.
 MISTAKES = [
     '@groop /a', 'group@', 'group @a', 'group @/nowhere/a', 'group @G', 'group /new max@', 'group /new @maxx 5M', 'group /new max @5Q',
     'group /new oom.group @2', 'group /new max @1.1234567M', 'group /new min @max1', 'group @/a//b', 'group @/a/', 'group @/a/..', 'group @"/a b', 'group @/new{',
@@ -78,6 +78,10 @@ class Writer:
     def let_sizes(self):
         return [f'{{{name}}}' for name, kind in self.state.lets if kind == 'size']
 
+    def worded(self, kind, word):
+        """The word, or the {NAME} of a `let` of its kind."""
+        return f'{{{kind}}}' if (kind, kind) in self.state.lets and self.chance(0.3) else word
+
     def part(self, most=12):
         a = self.random.randint(0, most - 1)
         b = self.random.randint(a + 1, most)
@@ -118,7 +122,7 @@ class Writer:
         if kind < 3:
             return f'{task} write ' + self.pick(self.size, self.size, self.part, lambda: self.part() + self.drawing())
         if kind < 5:
-            return f'{task} read' + self.pick('', '', lambda: ' ' + self.part(), lambda: self.drawing(), lambda: ' ' + self.part() + self.drawing())
+            return f'{task} {self.worded("act", "read")}' + self.pick('', '', lambda: ' ' + self.part(), lambda: self.drawing(), lambda: ' ' + self.part() + self.drawing())
         if kind < 6 or not self.state.files:
             return f'{task} free' + self.pick('', lambda: ' ' + self.size(3), lambda: ' ' + self.part())
         name = self.random.choice(self.state.files)
@@ -127,7 +131,7 @@ class Writer:
     def key(self):
         key = self.pick('max', 'min', 'low', 'oom.group')
         value = self.pick('0', '1') if key == 'oom.group' else self.pick('max', lambda: self.size(16), lambda: self.size(40), lambda: self.size(40))
-        return f'{self.pick("", "", "memory.")}{key} {value}'
+        return f'{self.pick("", "", "memory.")}{key if key == "oom.group" else self.worded("key", key)} {value}'
 
     def new_group(self):
         name = self.pick(*PLAIN_NAMES, *ODD_NAMES)
@@ -152,7 +156,7 @@ class Writer:
     def shell(self):
         kind = self.random.randint(0, 7)
         if kind < 2:
-            return f'set {self.group()} {self.key()}'
+            return f'set {self.worded("group", self.group())} {self.key()}'
         if kind == 2:
             return f'reclaim {self.pick("/", self.group)} {self.size()}'
         if kind == 3:
@@ -163,17 +167,25 @@ class Writer:
             self.state.groups.remove(path)
             return f'rmdir {path}'
         if kind == 5:
-            return self.pick('raw cat / memory.reclaim', 'raw 1 read 0 0', 'raw begin 1 write 0 0 1|raw step 1|raw finish 1', 'raw go', 'raw finish control', 'raw prot / /a', 'raw lowprot / "/a"')
+            return self.pick('raw 1 read 0 0', 'raw begin 1 write 0 0 1|raw finish 1', 'raw begin daemon|raw finish daemon', 'raw go', 'raw lowprot / "/a"')
         if kind == 6:
             child = f'child{self.random.randint(0, 999)}' + self.pick('', '[1]', '[2]')
             self.state.tasks.append(child)
             return f'{self.one()} fork {child}'
         return 'daemon'
 
+    def exit(self):
+        """A task ends, and mostly does nothing more."""
+        task = self.one()
+        if len(self.state.tasks) > 1 and self.chance(0.9):
+            self.state.tasks.remove(task)
+            self.state.families = [family for family in self.state.families if not task.startswith(family[0] + '[')]
+        return f'{task} exit'
+
     def look(self):
         kind = self.random.randint(0, 9)
         if kind < 2:
-            return 'show' + self.pick('', lambda: ' ' + self.group(), lambda: f' {self.group()} {self.group()}')
+            return 'show' + self.pick('', lambda: ' ' + self.worded('group', self.group()), lambda: f' {self.group()} {self.group()}')
         if kind < 4:
             return 'mark' + self.pick('', ' a phase', ' of "two # words"  and  more')
         operator = self.pick('', '= ', '>= ', '<= ')
@@ -183,6 +195,10 @@ class Writer:
             lambda: f'killed {self.one()} {self.one()}', lambda: f'alive {self.one()}', 'nobody killed')
 
     def let(self):
+        if self.chance(0.3) and self.state.groups:
+            kind, word = self.pick(('group', self.group()), ('key', self.pick('min', 'low')), ('act', self.pick('read', 'free')))
+            self.state.lets = [let for let in self.state.lets if let[0] != kind] + [(kind, kind)]
+            return f'let {kind} {word}'
         name = self.pick('n', 'size', 'max', 'ROOM')
         self.state.lets.append((name, 'size'))
         return f'let {name} {self.random.randint(1, 9)}{self.pick("p", "K")}'
@@ -204,6 +220,8 @@ class Writer:
                 lines += self.pick(lambda: [self.access()], lambda: [self.access()], lambda: ['daemon'], lambda: [f'reclaim {self.group()} {self.size(2)}'], self.small_repeat)
         else:
             lines = [self.repeat_head()]
+            if lines[0].startswith('repeat 0') and not lines[0].startswith('repeat 03') and self.chance(0.5):
+                lines += [self.pick('no such line', 'group /nowhere/a max', 'show {nothing}', 'let', 'memory 5M', 'expect refused EIO')]
             if depth == 0 and self.chance(0.15):
                 lines[0] += f' until {self.condition(False)}'
             for _ in range(self.random.randint(0, 3)):
@@ -240,14 +258,14 @@ class Writer:
         if kind == 13:
             return [self.let()]
         if kind == 14:
-            return [self.pick(f'{self.one()} exit', f'{self.one()} write until {self.condition(True)}', 'daemon')]
+            return [self.pick(self.exit, lambda: f'{self.one()} write until {self.condition(True)}', 'daemon')]
         if kind == 15:
             return [self.pick(self.access, lambda: f'reclaim {self.group()} {self.size(5)}'), f'expect refused {self.pick("EIO", "EAGAIN", "ESRCH")}']
         return self.block()
 
     def write_header(self):
         self.kib = self.pick(4, 4, 16, 64, 1024)
-        lines = ['file ' + name + f' {self.random.randint(3, 9)}p' for name in self.random.sample(['data', '"a file"', '_xf', 'log.1', 'images'], self.random.randint(0, 3))]
+        lines = ['file ' + name + f' {self.random.randint(3, 9)}p' for name in self.random.sample(['data', '"a b"', '_xf', 'log.1', '/var/log/a'], self.random.randint(0, 3))]
         self.state.files = [line.rsplit(' ', 1)[0].removeprefix('file ') for line in lines]
         lines += [f'memory {self.random.randint(12, 64)}p'] * self.chance(0.9) + [f'swap {self.size(30)}'] * self.chance(0.7)
         lines += ['watermarks 2p 5p'] * self.chance(0.5) + [f'fault {self.pick("read", "write")} {self.random.randint(1, 20)}'] * self.chance(0.2)
@@ -360,7 +378,7 @@ def main():
             text = text.replace('\n', '\r\n')
         (options.directory / f'{number:04}.scenario').write_bytes(text.encode())
     if other:
-        print(f'{other} mistakes were planted where another fault is told, and tried again', file=sys.stderr)
+        print(f'{other} mistakes were planted where another fault is reported, and tried again', file=sys.stderr)
     return 0
 
 

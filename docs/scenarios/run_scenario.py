@@ -91,7 +91,7 @@ class Trial:
         return kills
 
     def dead_after(self, entries):
-        """The tasks that were killed: those whose `exit` is answered so, behind the run."""
+        """The tasks that were killed: after the run, their `exit` is answered `killed`."""
         run = self.machine.run(self.lines_of(entries) + [f'{task} exit' for task in self.names])
         return [task for task in self.names if (f'{task} killed') in {text for number, text in run.answers if number > len(self.lines_of(entries))}]
 
@@ -256,7 +256,7 @@ class Report:
     def tell_note(self, at, entry):
         kind = entry.note[0]
         if kind == 'mark':
-            self.phase, self.phase_begin = entry.note[1], at
+            self.phase, self.phase_begin = entry.note[1] or f'since line {entry.line}', at
             self.baseline = {made: self.local_counts(entry, path) for _, path, made in entry.note[2]}
         elif kind == 'show':
             self.tell_table(at, entry)
@@ -300,8 +300,9 @@ class Report:
         elif kind == 'killed':
             met, said = set(what[1]) == set(self.dead), f'killed: {", ".join(self.trial.names[task] for task in self.dead) or "nobody"}'
         else:
-            dead = [task for task in what[1] if task in self.dead]
-            met, said = not dead, f'killed: {", ".join(self.trial.names[task] for task in dead)}'
+            before = {other.text for other in self.entries[:at]}
+            gone = [task for task in what[1] if task in self.dead or f'{task} exit' in before]
+            met, said = not gone, f'killed or ended: {", ".join(self.trial.names[task] for task in gone)}'
         self.well = self.well and met
         print(f'{place}  {entry.text}: ' + ('as expected' if met else f'NOT MET, {said}'))
 

@@ -123,7 +123,7 @@ def read_scenario(data):
 
 
 def fill(word, scopes):
-    """The word, with what each {NAME} stands for."""
+    """The word, with each {NAME} replaced."""
     if word.has_quotes:
         if word.outside('{}'):
             raise word.fault('a brace in a word with quotes')
@@ -269,7 +269,7 @@ def drawn(first, end, count, seed):
     return [first + (((splitmix(seed, i) >> 32) * (end - first)) >> 32) for i in range(1, count + 1)]
 
 
-# --- Lines of a script, behind `raw` ----------------------------------------------------------------------------------------------------
+# --- Lines of a script, after `raw` -----------------------------------------------------------------------------------------------------
 
 # The words of a script's lines, and what follows each: n a number, b a byte, p a path, f a name, w any word, a an actor.
 RAW_LINES = {'group': 'p', 'rmdir': 'p', 'task': 'np', 'attach': 'np', 'set': 'pww', 'cat': 'pw', 'prot': 'pp', 'lowprot': 'pp', 'daemon': ''}
@@ -279,7 +279,7 @@ RAW_NAME = r'(?!\.{1,2}(?:/|$))[A-Za-z0-9._-]{1,32}'
 
 
 def check_raw(words):
-    """Whether the words are a line of a script that may stand behind its header."""
+    """Raises a fault unless the words are a line of a script that may come after its header."""
     words = Words(words)
     begun = words.peek().text == 'begin'
     if begun:

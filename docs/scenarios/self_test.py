@@ -1,11 +1,11 @@
-"""Holds the expansion against the tables and examples of the language of scenarios."""
+"""Compares the expansion with the tables and examples of the language of scenarios."""
 from expand_scenario import Expansion
 from scenario_text import Fault, drawn, read_scenario
 
 GROUP = 'group /a\ntask x in /a\n'
 FILE = 'file f 3p\n' + GROUP
 
-# What a scenario stands for, behind the header and without the lines `# LINE`.
+# A scenario, and its script without the header and the lines `# LINE`.
 STANDS_FOR = [
     ('page 1M\ngroup /a max 2.5M\ntask x in /a\nx write 1.5M', 'group /a|set /a memory.max 8192|task 1 /a|1 write 0 0 1|1 write 1 0 1'),
     ('group "/a b"\ntask x in "/a b"\nrepeat 2\nx write 1p\nend', 'group /_x1|task 1 /_x1|1 write 0 0 1|1 write 1 0 1'),
@@ -56,7 +56,7 @@ PRINTED = [
      '# 6, round 1.1\n1 fread f 0 0\n# 8, round 1\n1 write 0 0 1\n# 6, round 2.1\n1 fread f 0 0\n# 8, round 2\n1 write 1 0 1\n'),
 ]
 
-# Lists with `until`: the scenario behind GROUP, the lengths, and the lines behind those of GROUP.
+# Lists with `until`: the scenario after GROUP, the lengths, and the script after the lines of GROUP.
 CUT = [
     ('repeat 2 until killed x\nx write 2p\nend\nx write 1p', [], '1 write 0 0 1|1 write 1 0 1|1 write 2 0 1|1 write 3 0 1'),
     ('repeat 2 until killed x\nx write 2p\nend\nx write 1p', [3], '1 write 0 0 1|1 write 1 0 1|1 write 2 0 1|1 write 3 0 1'),
@@ -96,20 +96,20 @@ def faults_at(text):
     return 'no fault'
 
 
-def behind_header(script):
+def after_header(script):
     begin = next((at for at, line in enumerate(script) if at and line.startswith('#')), len(script))
     return '|'.join(line for line in script[begin:] if not line.startswith('#'))
 
 
 def main():
     """Prints each row that is not met, and gives the status."""
-    rows = [(text, behind_header(expanded(text)), wanted) for text, wanted in STANDS_FOR]
+    rows = [(text, after_header(expanded(text)), wanted) for text, wanted in STANDS_FOR]
     rows += [(text, ''.join(f'{line}\n' for line in expanded(text)), wanted) for text, wanted in PRINTED]
-    rows += [(f'{text} {cuts}', behind_header(expanded(GROUP + text, cuts)), 'group /a|task 1 /a|' + wanted) for text, cuts, wanted in CUT]
+    rows += [(f'{text} {cuts}', after_header(expanded(GROUP + text, cuts)), 'group /a|task 1 /a|' + wanted) for text, cuts, wanted in CUT]
     rows += [(f'seed {seed}', drawn(0, 1000, 4, seed), wanted) for seed, wanted in DRAWN.items()]
     rows += [(text, faults_at(text), wanted) for text, wanted in FAULTY]
     late = GROUP + 'x write until killed\nx write 1p'
-    rows += [('a size behind an until', faults_at(late), 'no fault')]
+    rows += [('a size after an until', faults_at(late), 'no fault')]
     wrong = [row for row in rows if row[1] != row[2]]
     for text, found, wanted in wrong:
         print(f'self-test: {text!r}: {found!r}, and not {wanted!r}')
