@@ -356,6 +356,22 @@ def fault_at(text):
     return None
 
 
+def scenarios(count, seed, faulty):
+    """Random scenarios, as bytes; with one mistake each, if they are to be faulty."""
+    for number in range(1, count + 1):
+        writer = Writer(f'{seed} {number}')
+        text = writer.write(8 if faulty else 16)
+        while faulty:
+            planted = writer.plant()
+            # A mistake that comes to stand where it is none, or is not the first to be found, is planted elsewhere.
+            if planted and fault_at(planted[0]) == planted[1]:
+                text = planted[0]
+                break
+        if writer.chance(0.1):
+            text = text.replace('\n', '\r\n')
+        yield text.encode()
+
+
 def main():
     parser = argparse.ArgumentParser(description='Writes random scenarios.')
     parser.add_argument('count', type=int, metavar='N')
@@ -364,21 +380,8 @@ def main():
     parser.add_argument('--faulty', action='store_true', help='plant one mistake in each')
     options = parser.parse_args()
     options.directory.mkdir(parents=True, exist_ok=True)
-    other = 0
-    for number in range(1, options.count + 1):
-        writer = Writer(f'{options.seed} {number}')
-        text = writer.write(8 if options.faulty else 16)
-        while options.faulty:
-            planted = writer.plant()
-            if planted and fault_at(planted[0]) == planted[1]:
-                text = planted[0]
-                break
-            other += planted is not None
-        if writer.chance(0.1):
-            text = text.replace('\n', '\r\n')
-        (options.directory / f'{number:04}.scenario').write_bytes(text.encode())
-    if other:
-        print(f'{other} mistakes were planted where another fault is reported, and tried again', file=sys.stderr)
+    for number, data in enumerate(scenarios(options.count, options.seed, options.faulty), 1):
+        (options.directory / f'{number:04}.scenario').write_bytes(data)
     return 0
 
 
