@@ -335,7 +335,8 @@ class Expansion:
         exact = size_of(word, text, page) / page
         pages = -(-exact.numerator // exact.denominator) if up else exact.numerator // exact.denominator
         if pages != exact:
-            self.rounded.setdefault((word.line, word.column, text), pages)
+            # Once for each place: in a part, the beginning is rounded down and the end up.
+            self.rounded.setdefault((word.line, word.column, up), (text, pages))
         return pages
 
     def up(self, word):

@@ -197,8 +197,8 @@ class Report:
             for text in self.answers.get(number, []):
                 self.take_answer(entry, text, kills.get(entry.order, []), refused)
         self.refused = refused
-        for place, (line, column, text) in enumerate(self.expansion.rounded):
-            print(f'line {line}: {text} is no whole page: taken as {self.expansion.rounded[line, column, text]}p')
+        for (line, _, _), (text, pages) in self.expansion.rounded.items():
+            print(f'line {line}: {text} is no whole page: taken as {pages}p')
         end = len(self.entries)
         for at, entry in enumerate(self.entries):
             for kill in kills.get(entry.order, []):

@@ -1,4 +1,5 @@
 """The text of scenarios: words, lines, blocks, numbers, sizes and names; and the lines of scripts that `raw` may give."""
+import functools
 import re
 from dataclasses import dataclass, field, replace
 from fractions import Fraction
@@ -203,14 +204,22 @@ def number_of(word, low, high):
     return int(digits)
 
 
-def size_of(word, text, page):
-    """Bytes, exactly."""
-    match = None if word.has_quotes else re.fullmatch(r'([0-9]+)(?:(p)|(\.[0-9]{1,6})?([KMGT]?))', text)
+@functools.lru_cache(1024)
+def exact_size(text, page):
+    """Bytes, exactly; None if the text is no size."""
+    match = re.fullmatch(r'([0-9]+)(?:(p)|(\.[0-9]{1,6})?([KMGT]?))', text)
     if not match:
-        raise word.fault('expected a size, as 4096, 1.5G or 7p')
+        return None
     digits, pages, part, unit = match.groups()
     digits = digits.lstrip('0') or '0'
-    size = Fraction((digits if len(digits) <= 30 else '9' * 30) + (part or '')) * (page if pages else UNITS[unit])
+    return Fraction((digits if len(digits) <= 30 else '9' * 30) + (part or '')) * (page if pages else UNITS[unit])
+
+
+def size_of(word, text, page):
+    """The bytes of a size, which is the word or a part of it."""
+    size = None if word.has_quotes else exact_size(text, page)
+    if size is None:
+        raise word.fault('expected a size, as 4096, 1.5G or 7p')
     if size >= U64:
         raise word.fault('a size of 2^64 bytes or more')
     return size
