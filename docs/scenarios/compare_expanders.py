@@ -1,0 +1,97 @@
+#!/usr/bin/env python3
+"""Compares `PROGRAM expand FILE` with expand_scenario.py: on the scenarios of examples/, and on N random ones and N with a mistake.
+
+    compare_expanders.py PROGRAM N SEED [simulate]
+
+It prints the scenarios whose script, or whose place of the fault, differs, with the first line that does, and keeps them in a directory that it
+names. With `simulate` it compares instead what `PROGRAM simulate FILE` and `expand_scenario.py FILE --run PROGRAM` print of those without a mistake.
+"""
+import contextlib
+import io
+import itertools
+import pathlib
+import subprocess
+import sys
+import tempfile
+
+from expand_scenario import Expansion
+from random_scenarios import scenarios
+from run_scenario import run
+from scenario_text import Fault, read_scenario
+
+EXAMPLES = pathlib.Path(__file__).parent.parent.parent / 'examples' / 'scenarios'
+MOST_TOLD = 10
+
+
+def expanded(data, name):
+    """What an expander has to print: the script, or the place of the fault."""
+    try:
+        return ''.join(f'{line}\n' for line in Expansion(read_scenario(data)).script())
+    except Fault as fault:
+        return f'{name}:{fault.line}:{fault.column}: '
+
+
+def expanded_by(program, path):
+    done = subprocess.run([program, 'expand', path], capture_output=True, text=True, check=False)
+    if done.returncode == 0:
+        return done.stdout
+    if done.stdout:
+        return f'status {done.returncode}, and on standard output: {done.stdout}'
+    # Of a fault the place is compared, and not the text.
+    place, colon, _ = done.stderr.partition(': ')
+    return place + colon if done.returncode == 1 else f'status {done.returncode}: {done.stderr}'
+
+
+def simulated(program, data):
+    """What `simulate` has to print, with the status."""
+    with contextlib.redirect_stdout(io.StringIO()) as printed:
+        try:
+            status = run(read_scenario(data), (), program, False)
+        except Fault:
+            return 'a fault after the run began'
+    return f'{printed.getvalue()}status {status}\n'
+
+
+def simulated_by(program, path):
+    done = subprocess.run([program, 'simulate', path], capture_output=True, text=True, check=False)
+    return f'{done.stdout}status {done.returncode}\n'
+
+
+def difference(wanted, found):
+    """The first line that differs, with its number."""
+    pairs = itertools.zip_longest(wanted.splitlines(), found.splitlines(), fillvalue='nothing')
+    number, (one, other) = next(((number, pair) for number, pair in enumerate(pairs, 1) if pair[0] != pair[1]), (0, ('', 'another line end')))
+    return f'line {number}: {one!r} here, {other!r} there'
+
+
+def main():
+    if len(sys.argv) not in (4, 5) or sys.argv[4:] not in ([], ['simulate']):
+        print('Usage: compare_expanders.py PROGRAM N SEED [simulate]', file=sys.stderr)
+        return 2
+    program, count, seed, simulates = sys.argv[1], int(sys.argv[2]), int(sys.argv[3]), len(sys.argv) == 5
+    room = pathlib.Path(tempfile.mkdtemp(prefix='scenarios.'))
+    named = [(path.name, path.read_bytes()) for path in sorted(EXAMPLES.glob('*.scenario'))]
+    for kind, faulty in [('valid', False)] if simulates else [('valid', False), ('faulty', True)]:
+        named += [(f'{kind}_{number:04}.scenario', data) for number, data in enumerate(scenarios(count, seed, faulty), 1)]
+    differ = 0
+    for name, data in named:
+        path = room / name
+        path.write_bytes(data)
+        if simulates:
+            wanted, found = simulated(program, data), simulated_by(program, path)
+        else:
+            wanted, found = expanded(data, path), expanded_by(program, path)
+        if wanted == found:
+            path.unlink()
+            continue
+        differ += 1
+        if differ <= MOST_TOLD:
+            print(f'{path}: {difference(wanted, found)}')
+    if not differ:
+        room.rmdir()
+    print(f'{len(named)} scenarios, {differ} differ')
+    return 1 if differ else 0
+
+
+if __name__ == '__main__':
+    sys.exit(main())
