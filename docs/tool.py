@@ -36,7 +36,7 @@ SPECIFICATIONS = """
     scripts/specs/Words.antt scripts/specs/Forms.antt scripts/specs/Meaning.antt scripts/specs/Header.antt scripts/specs/Context.antt
     scripts/specs/Faults.antt scripts/specs/Script.antt scripts/specs/Work.antt scripts/specs/FaultTexts.antt
     printer/specs/Asked.antt printer/specs/Prints.antt subcommands/specs/Scripts.antt subcommands/specs/Told.antt
-    live/specs/Works.antt live/specs/Shares.antt live/specs/Matching.antt live/specs/Reports.antt live/specs/Crews.antt live/specs/Told.antt live/specs/OneRun.antt
+    live/specs/Exchanges.antt live/specs/Passes.antt live/specs/Works.antt live/specs/Shares.antt live/specs/Matching.antt live/specs/Reports.antt live/specs/Crews.antt live/specs/Told.antt live/specs/OneRun.antt
     subcommands/specs/Threads.antt
     expectations/specs/Expected.antt
     book/specs/Looks.antt charts/specs/Watched.antt charts/specs/Listed.antt subcommands/specs/Charted.antt
