@@ -5,6 +5,7 @@
 //! texts, so they can be worded for people.
 #![tactic(auto)]
 
+mod amounts;
 mod explanation;
 mod reason;
 mod refused;

@@ -1,5 +1,6 @@
 //! The texts that say why a command ended with a word.
 
+use crate::amounts::tip_for;
 use machine::command::Actor;
 use machine::limit::{LAST_TASK, MOST_TASKS, TASK_PAGES};
 use std::fmt;
@@ -210,10 +211,7 @@ impl fmt::Display for Reason<'_> {
             ),
             Reason::NoFile(name) => write!(f, "there is no file {name}"),
             Reason::FilePagePast { name, page } => write!(f, "the file {name} has no page {page}"),
-            Reason::NoAmount(text) => write!(
-                f,
-                "{text:?} is not an amount; write max, or bytes such as 4096, 64K, 64M, 64G or 64T, with no leading zero"
-            ),
+            Reason::NoAmount(text) => write!(f, "{text:?} is not an amount; {}", tip_for(text)),
             Reason::AmountTooLarge(text) => write!(
                 f,
                 "{text} is too large; the largest amount is {} bytes",
