@@ -1,4 +1,4 @@
-//! Which lists of files there can be, and how many blocks a machine needs.
+//! Which lists of files are valid, and how many blocks a machine needs.
 
 ghost use Rattle.std.specs.Prelude.{◌≡◌, ◌+◌, ◌≤◌, nat_le, sum, Some, None, if◌then◌else◌};
 ghost use Rattle.std.specs.List.{list_all, list_any};
@@ -43,8 +43,8 @@ fn are_files(files: &[File]) -> bool
     files.len() <= MOST_FILES && all_are_files(files) && are_apart(files)
 }
 
-/// How many blocks are used with one for each page of these files behind those that are. `None` where that
-/// is more than there can be.
+/// The number of blocks in use after adding one for each page of these files. `None` if that is more than
+/// allowed.
 pub fn blocks_behind(used: u32, files: &[File]) -> Option<u32>
     requires { used ≤ MOST_BLOCKS }
     ensures { let all = used + sum (sizes_of files.now) in result ≡ (if nat_le all MOST_BLOCKS then Some all else None) }
@@ -59,7 +59,7 @@ pub fn blocks_behind(used: u32, files: &[File]) -> Option<u32>
     Some(all)
 }
 
-/// How many blocks the device has to have: those of swap, and one for each page of a file. `None` where the
+/// How many blocks the device must have: the swap blocks, and one for each page of a file. `None` if the
 /// configuration is out of its limits.
 pub fn blocks_for(config: &Config) -> Option<u32>
     ensures { result ≡ (if is_config config.now then Some (blocks_of config.now) else None) }

@@ -1,7 +1,7 @@
-//! Files: which block of the device is the home of which page, and which lists of files there can be.
+//! Files: which block of the device is the home of which page, and which lists of files are valid.
 //!
-//! Home blocks stand behind the swap blocks, file by file in the list's order, and in each file page by
-//! page (kernel: a file system that never moves a block).
+//! The home blocks follow the swap blocks, file by file in the list's order (kernel: a file system that
+//! never moves a block). A file's home blocks are in the order of its pages.
 #![tactic(auto)]
 
 ghost use Rattle.std.specs.Prelude.{◌≡◌, ℕ, ◌+◌, ◌≤◌, ◌<◌, ◌^◌, IfOk, Some, None, sum, if◌then◌else◌};
@@ -24,12 +24,12 @@ struct Extent {
     pages: u32,
 }
 
-/// Files, each by its number: its place in the list that they were opened with.
+/// Files, each with its number: its place in the list that they were opened with.
 #[derive(Drop)]
 pub struct Files {
     first: u32,
     extents: Vec<Extent>,
-    /// The block behind the last home.
+    /// The block after the last home.
     end: u32,
 }
 
@@ -44,8 +44,8 @@ impl Model for Files {
 }
 
 impl Files {
-    /// The files of the list, the first page of the first one at home on this block. `AllocError` where there
-    /// is no memory.
+    /// The files of the list. The home of the first page of the first file is this block. `AllocError` if
+    /// there is no memory.
     pub fn open(alloc: Global, files: &FileList, first: u32) -> Result<Files, AllocError>
         requires { first + sum (sizes_of files.now) ≤ u32.MAX }
         ensures { IfOk result (λ f. f ≡ record { first = first; sizes = sizes_of files.now }) }
@@ -73,7 +73,7 @@ impl Files {
         self.first
     }
 
-    /// How many pages all files have.
+    /// How many pages all files have together.
     pub fn pages(&self) -> u32
         ensures { result ≡ sum self.now.sizes }
     {
@@ -91,15 +91,15 @@ impl Files {
         Some(extent.start + page)
     }
 
-    /// Nothing is done: all home blocks have numbers.
+    /// Does nothing. The contract states that all home blocks have numbers.
     pub fn are_numbered(&self)
         ensures { self.now.first + sum self.now.sizes < 2 ^ 32 }
     {
         let _ = &self.extents;
     }
 
-    /// Nothing is done: no two pages of files have one home, and all homes are at or behind the first one
-    /// and before the end of the last file.
+    /// Does nothing. The contract states that no two pages of files have the same home. All homes are at or
+    /// after the first one and before the end of the last file.
     pub fn homes_are_apart(&self)
         ensures apart { (file page file' page' block : ℕ) → home_in self.now file page ≡ Some block → home_in self.now file' page' ≡ Some block → (file ≡ file') × (page ≡ page') }
         ensures behind { (file page block : ℕ) → home_in self.now file page ≡ Some block → self.now.first ≤ block }

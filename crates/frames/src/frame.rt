@@ -8,11 +8,11 @@ use machine::id::FrameId;
 use std::alloc::{AllocError, Global};
 use std::marker::Model;
 
-/// The bytes of a frame, which are those of the page that stands in it (kernel: `PAGE_SIZE`).
+/// The number of bytes of a frame, equal to the bytes of a page (kernel: `PAGE_SIZE`).
 pub const FRAME_BYTES: usize = PAGE_BYTES;
 
-/// A page frame: 4,096 bytes of memory, by its number (kernel: a page frame and its number). It is
-/// no `Drop`: it goes back to the pool that it came from, by [`Pool::give`](crate::Pool::give).
+/// A page frame: 4,096 bytes of memory, with its number (kernel: a page frame and its number). It
+/// is not `Drop`: [`Pool::give`](crate::Pool::give) returns it to the pool that it came from.
 #[must_use]
 pub struct Frame {
     number: FrameId,
@@ -28,7 +28,7 @@ impl Model for Frame {
 }
 
 impl Frame {
-    /// A frame of zeros. `AllocError` where there is no memory for its bytes.
+    /// A frame of zeros. `AllocError` if there is no memory for its bytes.
     pub(crate) fn new(alloc: Global, number: FrameId) -> Result<Self, AllocError>
         ensures number { IfOk result (λ f. f.number ≡ number.0) }
         ensures zeros { IfOk result (λ f. (o : ℕ) → slice_index f.bytes o ≡ 0) }
@@ -37,7 +37,7 @@ impl Frame {
         Ok(Frame { number, bytes })
     }
 
-    /// The frame is no more, and its memory is the program's again.
+    /// Ends the frame, and returns its memory to the program.
     pub(crate) fn end(self) {
         let Frame {
             number: _,
@@ -45,7 +45,7 @@ impl Frame {
         } = self;
     }
 
-    /// Which frame it is.
+    /// The number of the frame.
     pub fn number(&self) -> FrameId
         ensures { result.0 ≡ self.now.number }
     {
@@ -70,14 +70,14 @@ impl Frame {
         self.bytes[offset] = byte;
     }
 
-    /// All bytes, to be read.
+    /// All bytes, lent for reading.
     pub fn bytes(&self) -> &[u8; FRAME_BYTES]
         ensures { result.now ≡ self.now.bytes }
     {
         &self.bytes
     }
 
-    /// Other bytes in place of all of them (kernel: `copy_highpage`).
+    /// Replaces all bytes by these (kernel: `copy_highpage`).
     pub fn fill(&mut self, bytes: &[u8; FRAME_BYTES])
         ensures bytes { self.new.bytes ≡ bytes.now }
         ensures number { self.new.number ≡ self.old.number }
@@ -85,7 +85,7 @@ impl Frame {
         *self.bytes = *bytes;
     }
 
-    /// Zeros in place of all bytes (kernel: `clear_highpage`).
+    /// Replaces all bytes by zeros (kernel: `clear_highpage`).
     pub fn clear(&mut self)
         ensures zeros { (o : ℕ) → slice_index self.new.bytes o ≡ 0 }
         ensures number { self.new.number ≡ self.old.number }

@@ -1,7 +1,7 @@
-//! Page frames: the machine's memory, in frames of 4,096 bytes, and the pool of those that are free.
+//! Page frames: the machine's memory, in frames of 4,096 bytes, and the pool of the free frames.
 //!
-//! A frame is a value that has to be spent: whoever takes one gives it back to the pool, and the pool
-//! is closed with all of its frames.
+//! A frame is a value that must be spent. Code that takes one must give it back to the pool, and the
+//! pool is closed with all of its frames.
 #![tactic(auto)]
 
 pub use frame::{FRAME_BYTES, Frame};

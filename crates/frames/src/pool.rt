@@ -10,15 +10,15 @@ use machine::id::FrameId;
 use std::alloc::{AllocError, Global};
 use std::marker::Model;
 
-/// The frames that no page stands in (kernel: the buddy allocator's free pages), how many frames there
-/// are in all, and spares. It is no `Drop`: it is closed, by [`Pool::close`], once all frames are back.
+/// The frames without a page (kernel: the buddy allocator's free pages), the total number of frames,
+/// and spares. It is not `Drop`: [`Pool::close`] closes it once all frames are back.
 #[must_use]
 pub struct Pool {
     free: Vec<Frame>,
     spares: Vec<Spare>,
-    /// How many frames there are, free ones and others. Their numbers are those below it.
+    /// The total number of frames, free or in use. Their numbers are below it.
     frames: u32,
-    /// How many spares were made, those that are in and those that are out.
+    /// How many spares were made, including those that are out.
     most_spares: u32,
 }
 
@@ -35,8 +35,8 @@ impl Model for Pool {
 }
 
 impl Pool {
-    /// So many frames, numbered from 0 on, and all of them free; and so many spares. `AllocError` where
-    /// there is no memory for them: what was made of them by then is given back.
+    /// This many frames, numbered from 0 on and all free, and this many spares. `AllocError` if there
+    /// is no memory for them. Frames and spares made until then are freed.
     pub fn open(alloc: Global, frames: u32, spares: u32) -> Result<Pool, AllocError>
         ensures once { IfOk result (λ p. (n : ℕ) → n < frames → times p.free n ≡ 1) }
         ensures none_beyond { IfOk result (λ p. (n : ℕ) → frames ≤ n → times p.free n ≡ 0) }
@@ -67,8 +67,8 @@ impl Pool {
         self.free.len() as u32
     }
 
-    /// A free frame, if there is one. Its bytes are what its last user left. It goes back by
-    /// [`Pool::give`].
+    /// A free frame, if there is one. It has the bytes that its last user left. [`Pool::give`] returns
+    /// it.
     pub fn take(&mut self) -> Option<Frame>
         ensures none { IfNone result (length self.old.free ≡ 0) }
         ensures kept { IfNone result (self.new ≡ self.old) }
@@ -78,14 +78,14 @@ impl Pool {
         ensures spares { self.new.spares ≡ self.old.spares }
         ensures most_spares { self.new.most_spares ≡ self.old.most_spares }
 
-        // The frame is no longer free, so that no two frames that are out have one number.
+        // The frame is no longer free, so no two frames that are out have the same number.
         ensures out { IfSome result (λ f. times self.new.free f.number ≡ 0) }
         ensures in_range { IfSome result (λ f. f.number < self.old.frames) }
     {
         self.free.pop()
     }
 
-    /// Takes a frame back. This takes no memory.
+    /// Takes a frame back. Allocates no memory.
     pub fn give(&mut self, frame: Frame)
         requires out { times self.old.free frame.number ≡ 0 }
         requires in_range { frame.number < self.old.frames }
@@ -98,8 +98,8 @@ impl Pool {
         self.free.push_reserved(frame);
     }
 
-    /// A spare, if one is in. Its bytes are what its last user left. It goes back by
-    /// [`Pool::give_spare`].
+    /// A spare, if one is in. It has the bytes that its last user left. [`Pool::give_spare`] returns
+    /// it.
     pub fn take_spare(&mut self) -> Option<Spare>
         ensures none { IfNone result (self.old.spares ≡ 0) }
         ensures kept { IfNone result (self.new ≡ self.old) }
@@ -108,7 +108,7 @@ impl Pool {
         self.spares.pop()
     }
 
-    /// Takes a spare back, where one is out. This takes no memory.
+    /// Takes a spare back, if one is out. Allocates no memory.
     pub fn give_spare(&mut self, spare: Spare)
         requires { self.old.spares < self.old.most_spares }
         ensures { self.new ≡ record self.old { spares = self.old.spares + 1 } }
@@ -116,7 +116,7 @@ impl Pool {
         self.spares.push_reserved(spare);
     }
 
-    /// The end of the pool, once all of its frames are free. Spares may be out.
+    /// Closes the pool, once all of its frames are free. Spares may be out.
     pub fn close(self)
         requires all { length self.free ≡ self.frames }
     {
@@ -131,7 +131,7 @@ impl Pool {
     }
 }
 
-/// New frames, numbered from 0 on. Where the memory ends, those made by then are given back.
+/// New frames, numbered from 0 on. If memory runs out, the frames made until then are freed.
 fn new_frames(alloc: Global, count: u32) -> Result<Vec<Frame>, AllocError>
     ensures once { IfOk result (λ free. (n : ℕ) → n < count → times (numbers_of free.items) n ≡ 1) }
     ensures none_beyond { IfOk result (λ free. (n : ℕ) → count ≤ n → times (numbers_of free.items) n ≡ 0) }
@@ -146,7 +146,7 @@ fn new_frames(alloc: Global, count: u32) -> Result<Vec<Frame>, AllocError>
     Ok(free)
 }
 
-/// Adds new frames to an empty list that has room for them: those below `frames`. After an error it
+/// Adds the new frames below `frames` to an empty list that has room for them. After an error the list
 /// has some of them.
 fn fill(alloc: Global, free: &mut Vec<Frame>, frames: u32) -> Result<(), AllocError>
     requires empty { vec_len free.old ≡ 0 }
@@ -170,7 +170,7 @@ fn end_all(mut free: Vec<Frame>) {
     free.destroy_empty();
 }
 
-/// New spares. Where the memory ends, those made by then are given back.
+/// New spares. If memory runs out, the spares made until then are freed.
 fn new_spares(alloc: Global, count: u32) -> Result<Vec<Spare>, AllocError>
     ensures all { IfOk result (λ spares. length spares.items ≡ count) }
     ensures room { IfOk result (λ spares. count ≤ vec_capacity spares) }
@@ -183,8 +183,8 @@ fn new_spares(alloc: Global, count: u32) -> Result<Vec<Spare>, AllocError>
     Ok(spares)
 }
 
-/// Adds so many new spares to an empty list that has room for them. After an error it has some of
-/// them.
+/// Adds this many new spares to an empty list that has room for them. After an error the list has some
+/// of them.
 fn fill_spares(alloc: Global, spares: &mut Vec<Spare>, count: u32) -> Result<(), AllocError>
     requires empty { vec_len spares.old ≡ 0 }
     requires room { count ≤ vec_capacity spares.old }

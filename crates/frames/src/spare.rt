@@ -1,4 +1,4 @@
-//! Bytes beside the frames, for pages that are being written out.
+//! Bytes outside the frames, for pages that are being written out.
 
 ghost use Rattle.std.specs.Prelude.{◌≡◌};
 
@@ -6,9 +6,9 @@ use crate::frame::FRAME_BYTES;
 use std::alloc::{AllocError, Global};
 use std::marker::Model;
 
-/// 4,096 bytes that are no frame's: a copy of a page while it is being written out (kernel: a bounce
-/// page). It is no `Drop`: it goes back to the pool that it came from, by
-/// [`Pool::give_spare`](crate::Pool::give_spare), or is given up by [`Spare::discard`].
+/// 4,096 bytes outside the frames: a copy of a page while it is being written out (kernel: a bounce
+/// page). It is not `Drop`: [`Pool::give_spare`](crate::Pool::give_spare) returns it to the pool
+/// that it came from, or [`Spare::discard`] ends it.
 #[must_use]
 pub struct Spare {
     bytes: Box<[u8; FRAME_BYTES]>,
@@ -23,7 +23,7 @@ impl Model for Spare {
 }
 
 impl Spare {
-    /// A spare of zeros. `AllocError` where there is no memory for its bytes.
+    /// A spare of zeros. `AllocError` if there is no memory for its bytes.
     pub(crate) fn new(alloc: Global) -> Result<Spare, AllocError> {
         let bytes = Box::new(alloc, [0; FRAME_BYTES])?;
         Ok(Spare { bytes })
@@ -36,14 +36,14 @@ impl Spare {
         &self.bytes
     }
 
-    /// Other bytes in place of all of them.
+    /// Replaces all bytes by these.
     pub fn fill(&mut self, bytes: &[u8; FRAME_BYTES])
         ensures { self.new ≡ bytes.now }
     {
         *self.bytes = *bytes;
     }
 
-    /// The spare is no more, and its memory is the program's again. No pool has it back.
+    /// Ends the spare, and returns its memory to the program. It does not return to a pool.
     pub fn discard(self) {
         let Spare { bytes: _ } = self;
     }

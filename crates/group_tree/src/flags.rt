@@ -1,4 +1,4 @@
-//! Which groups the out-of-memory killer takes as one.
+//! Which groups the OOM killer kills as one.
 
 ghost use Rattle.std.specs.Prelude.{◌≡◌, ◌+◌, ◌<◌, ◌≤◌, ◌++◌, ◌∷◌, [], length, slice_set, IfOk, OnOk, IsOk};
 ghost use Rattle.machine.specs.Victim.{flag_at};
@@ -8,10 +8,11 @@ use machine::record::OomGroup;
 use std::alloc::{AllocError, Global};
 use std::marker::Model;
 
-/// By group whether the killer takes it as one (kernel: `oom_group` of a `struct mem_cgroup`).
+/// For each group, whether the OOM killer kills it as one (kernel: `oom_group` of a
+/// `struct mem_cgroup`).
 ///
-/// A contract sees the flags as a list by the groups' numbers, and for how many groups more there is
-/// memory. A removed group keeps its place.
+/// A contract sees the flags as a list by the groups' numbers, and for how many further groups there
+/// is memory. A removed group keeps its place.
 #[derive(Drop)]
 pub struct Flags {
     flags: Vec<OomGroup>,
@@ -27,7 +28,7 @@ impl Model for Flags {
 }
 
 impl Flags {
-    /// The root alone, without the flag. `AllocError` where there is no memory for it.
+    /// Only the root, without the flag. `AllocError` if there is no memory for it.
     pub fn new(alloc: Global) -> Result<Self, AllocError>
         ensures { IfOk result (λ f. f.flags ≡ OomGroup.Single ∷ []) }
     {
@@ -36,8 +37,8 @@ impl Flags {
         Ok(Flags { flags })
     }
 
-    /// Asks for the memory of one group more. `AllocError` where there is none; the flags are the same
-    /// either way.
+    /// Reserves the memory for another group. `AllocError` if memory runs out. The flags do not
+    /// change in either case.
     pub fn reserve(&mut self) -> Result<(), AllocError>
         ensures room { OnOk result (0 < self.new.room) }
         ensures flags { self.new.flags ≡ self.old.flags }
@@ -47,7 +48,7 @@ impl Flags {
         self.flags.reserve(1)
     }
 
-    /// A group more, without the flag. Its memory was asked for by [`Flags::reserve`].
+    /// Adds a group without the flag. [`Flags::reserve`] reserved its memory.
     pub fn add_reserved(&mut self)
         requires room { 0 < self.old.room }
         ensures flags { self.new.flags ≡ self.old.flags ++ OomGroup.Single ∷ [] }
@@ -56,7 +57,7 @@ impl Flags {
         self.flags.push_reserved(OomGroup::Single);
     }
 
-    /// The group's flag. A number that is no group's has none.
+    /// The group's flag. The number of no group has no flag.
     pub fn flag(&self, group: GroupId) -> OomGroup
         ensures { result ≡ flag_at self.now.flags group.0 }
     {
@@ -66,7 +67,7 @@ impl Flags {
         }
     }
 
-    /// Another flag for a group (kernel: memory_oom_group_write).
+    /// Sets the group's flag (kernel: memory_oom_group_write).
     pub fn set_flag(&mut self, group: GroupId, flag: OomGroup)
         requires there { group.0 < length self.old.flags }
         ensures flags { self.new.flags ≡ slice_set self.old.flags group.0 flag }

@@ -1,8 +1,8 @@
-//! The tree of groups: which there are, what each hangs below, which one a path names, and which of them the
-//! killer takes as one.
+//! The tree of groups: which groups exist, the parent of each, which one a path names, and which of them the
+//! OOM killer kills as one.
 //!
-//! A group's number is its place in the order of making, and its parent's number is smaller. So
-//! every walk up ends, and no walk takes memory.
+//! A group's number is its place in the order of making, and its parent's number is smaller. Therefore every
+//! walk up ends, and no walk allocates memory.
 #![tactic(auto)]
 
 pub use flags::Flags;

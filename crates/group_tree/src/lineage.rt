@@ -1,4 +1,4 @@
-//! Which group hangs below which, for those who keep something by group.
+//! The parent of each group, for the crates that keep something by group.
 
 ghost use Rattle.std.specs.Prelude.{◌≡◌, ℕ, ◌+◌, ◌<◌, ◌≤◌, ◌++◌, ◌∷◌, [], Some, None, true, false, length, slice_set, IfOk, OnOk, OnErr, IsOk};
 ghost use Rattle.std.specs.Option.{option_map};
@@ -9,15 +9,15 @@ use machine::id::GroupId;
 use std::alloc::{AllocError, Global};
 use std::marker::Model;
 
-/// A group: what it hangs below, and whether it still is.
+/// A group: its parent, and whether it still exists.
 #[derive(Clone, Copy)]
 struct Group {
     parent: Option<GroupId>,
     live: bool,
 }
 
-/// The groups by their numbers, which come in the order of making. A removed group keeps its
-/// number, and what it hung below stays known.
+/// The groups by their numbers, in the order of making. A removed group keeps its number, and its
+/// parent stays known.
 #[derive(Drop)]
 pub struct Lineage {
     groups: Vec<Group>,
@@ -35,7 +35,7 @@ impl Model for Lineage {
 }
 
 impl Lineage {
-    /// The root alone. `AllocError` where there is no memory for it.
+    /// Only the root. `AllocError` if there is no memory for it.
     pub fn new(alloc: Global) -> Result<Self, AllocError>
         ensures { IfOk result (λ l. l.tree ≡ bare None ∷ []) }
     {
@@ -47,8 +47,8 @@ impl Lineage {
         Ok(Lineage { groups })
     }
 
-    /// Asks for the memory of one group more. `AllocError` where there is none; the groups are the
-    /// same either way.
+    /// Reserves the memory for another group. `AllocError` if memory runs out. The groups do not
+    /// change in either case.
     pub fn reserve(&mut self) -> Result<(), AllocError>
         ensures room { OnOk result (0 < self.new.room) }
         ensures tree { self.new.tree ≡ self.old.tree }
@@ -58,7 +58,7 @@ impl Lineage {
         self.groups.reserve(1)
     }
 
-    /// A group more, below another. Its memory was asked for by [`Lineage::reserve`].
+    /// Adds a group below another. [`Lineage::reserve`] reserved its memory.
     pub fn add(&mut self, parent: GroupId)
         requires room { 0 < self.old.room }
         requires parent { is_live self.old.tree parent.0 ≡ true }
@@ -71,7 +71,7 @@ impl Lineage {
         });
     }
 
-    /// The group is no more. It is not the root, and none hangs below it.
+    /// Removes the group. It is not the root and has no children.
     pub fn remove(&mut self, group: GroupId)
         requires below { 0 < group.0 }
         requires live { is_live self.old.tree group.0 ≡ true }
@@ -82,15 +82,15 @@ impl Lineage {
         self.groups[group.0 as usize].live = false;
     }
 
-    /// How many groups there ever were.
+    /// How many groups were ever made.
     pub fn len(&self) -> usize
         ensures { result ≡ length self.now.tree }
     {
         self.groups.len()
     }
 
-    /// What a group hangs below (kernel: parent_mem_cgroup). Nothing for the root, and for a number
-    /// that is no group's.
+    /// The parent of a group (kernel: parent_mem_cgroup). `None` for the root and for a number of
+    /// no group.
     pub fn parent(&self, group: GroupId) -> Option<GroupId>
         ensures parent { option_map (λ g. g.0) result ≡ (node_at self.now.tree group.0).parent }
         ensures lineage { IsLineage self.now.tree }
@@ -98,7 +98,7 @@ impl Lineage {
         self.groups.get(group.0 as usize)?.parent
     }
 
-    /// Whether this is the number of a live group that hangs below the parent.
+    /// Whether this is the number of a live child of the parent.
     pub fn is_child(&self, number: usize, parent: GroupId) -> bool
         ensures { result ≡ is_child parent.0 (node_at self.now.tree number) }
     {
@@ -108,7 +108,7 @@ impl Lineage {
         group.live && group.parent == Some(parent)
     }
 
-    /// Nothing is done: what holds of every lineage.
+    /// Does nothing. The contract states what holds of every lineage.
     pub fn is_lineage(&self)
         ensures { IsLineage self.now.tree }
     {

@@ -3,7 +3,7 @@
 ghost use Rattle.std.specs.Prelude.{◌≡◌};
 ghost use Rattle.machine.specs.Names.{parent_path};
 
-/// The path without its last slash and name, and `/` where nothing else is left.
+/// The path without its last slash and name, or `/` if nothing else is left.
 pub(crate) fn parent_path(path: &str) -> &str
     ensures { result.now ≡ parent_path path.now }
 {

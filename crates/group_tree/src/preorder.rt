@@ -1,4 +1,4 @@
-//! A walk over a group and all below it.
+//! A walk over a group and all groups below it.
 
 ghost use Rattle.std.specs.Prelude.{◌≡◌, map, IsTrue};
 ghost use Rattle.std.specs.Iterator.{YieldsFirstBy, item_count};
@@ -10,8 +10,8 @@ use machine::id::GroupId;
 use std::iter::FusedIterator;
 use std::marker::Model;
 
-/// The groups at and below a group, each before those below it, and children in order of making.
-/// It takes no memory. A contract sees the numbers of the groups that are left.
+/// The groups at and below a group. Each comes before those below it, and children are in order of
+/// making. It allocates no memory. A contract sees the numbers of the groups that are left.
 #[derive(Drop)]
 pub struct Preorder<'a> {
     left: &'a [GroupId],
@@ -42,8 +42,8 @@ impl<'a> Iterator for Preorder<'a> {
 impl<'a> FusedIterator for Preorder<'a> {}
 
 impl Tree {
-    /// The group and all below it, each before those below it, and children in order of making
-    /// (kernel: mem_cgroup_iter).
+    /// The group and all below it. Each comes before those below it, and children are in order of
+    /// making (kernel: mem_cgroup_iter).
     pub fn preorder(&self, group: GroupId) -> Preorder<'_>
         requires { IsTrue (is_live self.now group.0) }
         ensures { result ≡ preorder self.now group.0 }
@@ -55,8 +55,8 @@ impl Tree {
         }
     }
 
-    /// The groups that a walk over `start` and all below it comes to behind this one. None where it
-    /// does not come to it: where the group is no more, or is not below `start`.
+    /// The groups that follow this one in a walk over `start` and all below it. The result is empty
+    /// if the walk does not visit this one: it was removed, or is not below `start`.
     pub fn preorder_behind(&self, start: GroupId, group: GroupId) -> Preorder<'_>
         requires { IsTrue (is_live self.now start.0) }
         ensures { result ≡ behind (preorder self.now start.0) group.0 }

@@ -18,33 +18,33 @@ use std::alloc::{AllocError, Global};
 use std::marker::Model;
 use text_forms::name::is_path;
 
-/// How many live groups there can be, the root counted.
+/// The most live groups, including the root.
 const MAX_GROUPS: usize = 256;
 
-/// How many groups a group can hang below, the root counted.
+/// The most groups above a group, including the root.
 const MAX_LEVELS: usize = 16;
 
-/// How many groups there can ever be: also the number of the next group after them is a `u32`.
+/// The most groups that are ever made. The number of the next group after them must be a `u32` too.
 const MAX_NUMBERS: usize = u32::MAX as usize;
 
-/// A group: what it hangs below, the path that it was made with, and whether it still is.
+/// A group: its parent, the path that it was made with, and whether it still exists.
 #[derive(Drop)]
 pub struct Group {
     pub parent: Option<GroupId>,
-    /// For the contracts, which see it, and for a removal, which takes it out of the index. The code
-    /// finds a group by the index.
+    /// Contracts see it, and a removal takes it out of the index. The code finds a group by the
+    /// index.
     path: String,
     live: bool,
 }
 
 /// The tree of groups. Its first group is the root, at `/`.
 ///
-/// A contract sees it as the list of its groups in order of making, so a group's number is its
-/// place there.
+/// A contract sees it as the list of its groups in order of making: a group's number is its place in
+/// this list.
 #[derive(Drop)]
 pub struct Tree {
     alloc: Global,
-    /// By number. A removed group stays, so that its parent stays known.
+    /// By number. A removed group keeps its place, so its parent stays known.
     groups: Vec<Group>,
     /// The live groups in the order of a walk.
     pub(crate) walk: Walk,
@@ -68,7 +68,7 @@ impl Model for Tree {
 }
 
 impl Tree {
-    /// The tree of the root alone. `AllocError` where there is no memory for it.
+    /// The tree with only the root. `AllocError` if there is no memory for it.
     pub fn open(alloc: Global) -> Result<Self, AllocError>
         ensures { IfOk result (λ tree. tree ≡ root ∷ []) }
     {
@@ -91,19 +91,20 @@ impl Tree {
         })
     }
 
-    /// Makes a group of this path, below the group of the path without its last name (kernel:
+    /// Makes a group with this path, below the group of the path without its last name (kernel:
     /// mem_cgroup_css_alloc).
     ///
-    /// The caller has seen that nothing refuses it (`parent_for`, `space_refusal`). `AllocError`
-    /// where there is no memory for it, or no number left, and then nothing changes.
+    /// The caller has checked that nothing refuses it (`parent_for`, `space_refusal`). `AllocError`
+    /// if there is no memory for it, or no number left. Then nothing changes.
     pub fn mkdir(&mut self, path: &str) -> Result<GroupId, AllocError>
         requires { mkdir_refusal self.old (λ g. false) path.now ≡ None }
         ensures id { IfOk result (λ g. g.0 ≡ length self.old) }
         ensures ok { OnOk result (self.new ≡ self.old ++ new_node self.old path.now ∷ []) }
         ensures err { OnErr result (self.new ≡ self.old) }
     {
-        // `space_refusal` bounds the live groups alone, and a removed one keeps its number. Where no
-        // number is left, memory is wanting: the table has no place for one group more.
+        // `space_refusal` limits only the live groups, and a removed one keeps its number. If no
+        // number is left, the call fails as if memory had run out: the table has no place for another
+        // group.
         if self.groups.len() >= MAX_NUMBERS {
             return Err(AllocError);
         }
@@ -124,9 +125,8 @@ impl Tree {
         Ok(id)
     }
 
-    /// The group is removed (kernel: cgroup_destroy_locked). It is not the root, and none hangs below
-    /// it. Its number is given to no other, what it hung below stays known, and its path can be made
-    /// again.
+    /// Removes the group (kernel: cgroup_destroy_locked). It is not the root and has no children. No
+    /// other group gets its number, its parent stays known, and its path can be made again.
     pub fn rmdir(&mut self, group: GroupId)
         requires below { 0 < group.0 }
         requires live { is_live self.old group.0 ≡ true }
@@ -140,21 +140,21 @@ impl Tree {
         self.live -= 1;
     }
 
-    /// Nothing is done: what holds of every tree of groups.
+    /// Does nothing. The contract states what holds of every tree of groups.
     pub fn groups_form_a_tree(&self)
         ensures { IsGroupTree self.now }
     {
         let _ = &self.groups;
     }
 
-    /// What the group that is made next is numbered.
+    /// The number of the group that is made next.
     pub fn next_id(&self) -> GroupId
         ensures { result.0 ≡ length self.now }
     {
         GroupId(self.groups.len() as u32)
     }
 
-    /// Whether there is such a group, and it was not removed.
+    /// Whether the group exists and was not removed.
     pub fn is_live(&self, group: GroupId) -> bool
         ensures { result ≡ is_live self.now group.0 }
     {
@@ -172,8 +172,8 @@ impl Tree {
         self.by_path.get(path).copied()
     }
 
-    /// What a group hangs below (kernel: parent_mem_cgroup). Nothing for the root, and for a number
-    /// that is no group's.
+    /// The parent of a group (kernel: parent_mem_cgroup). `None` for the root and for a number of no
+    /// group.
     pub fn parent(&self, group: GroupId) -> Option<GroupId>
         ensures parent { option_map (λ g. g.0) result ≡ (node_at self.now group.0).parent }
         ensures tree { IsGroupTree self.now }
@@ -181,7 +181,7 @@ impl Tree {
         self.groups.get(group.0 as usize)?.parent
     }
 
-    /// Whether one group is another or above it (kernel: mem_cgroup_is_descendant).
+    /// Whether `above` is the group itself or one above it (kernel: mem_cgroup_is_descendant).
     pub fn is_under(&self, above: GroupId, group: GroupId) -> bool
         ensures { result ≡ under self.now above.0 group.0 }
     {
@@ -195,14 +195,14 @@ impl Tree {
         false
     }
 
-    /// Whether a live group hangs below this one.
+    /// Whether the group has a live child.
     pub fn has_children(&self, group: GroupId) -> bool
         ensures { result ≡ has_children self.now group.0 }
     {
         self.is_live(group) && self.walk.spans[group.0 as usize] > 1
     }
 
-    /// The group, what it hangs below, and so on up to the root. No group has more than 16 above it.
+    /// The group, its parent, and so on up to the root. No group has more than 16 above it.
     pub fn ancestors(&self, group: GroupId) -> ArrayVec<GroupId, 17>
         requires { IsTrue (is_live self.now group.0) }
         ensures { map (λ g. g.0) result.items ≡ chain self.now (Some group.0) }
@@ -216,11 +216,11 @@ impl Tree {
         chain
     }
 
-    /// The group below which a group of this path would be made.
+    /// The parent of a new group with this path.
     ///
-    /// `Invalid` where the text is no path, `NoEntry` where the group above it is not there, and
-    /// `Exists` where the path is taken: the first of these that applies. Whether the group may
-    /// have children (`Busy`) and whether there is room (`space_refusal`) come after.
+    /// `Invalid` if the text is not a path, `NoEntry` if the parent does not exist, and `Exists` if a
+    /// group has this path already: the first of these that applies. Whether the group may have
+    /// children (`Busy`) and whether there is room (`space_refusal`) is checked afterwards.
     pub fn parent_for(&self, path: &str) -> Result<GroupId, Refusal>
         ensures parent { IfOk result (λ p. find_group self.now (parent_path path.now) ≡ Some p.0) }
         ensures live { IfOk result (λ p. IsTrue (is_live self.now p.0)) }
@@ -242,8 +242,8 @@ impl Tree {
         Ok(parent)
     }
 
-    /// Why no group can be made below this one for want of room: `NoSpace` where there are 256
-    /// live groups, or where it lies 16 levels below the root.
+    /// Why there is no room for a group below this one, if so: `NoSpace` if there are 256 live
+    /// groups, or if this one is 16 levels below the root.
     pub fn space_refusal(&self, parent: GroupId) -> Option<Refusal>
         requires { IsTrue (is_live self.now parent.0) }
         ensures { result ≡ space_refusal self.now parent.0 }

@@ -1,5 +1,5 @@
-//! The live groups in the order of a walk, so that a walk over a group and all below it is a run
-//! over one part of one list (kernel: mem_cgroup_iter).
+//! The live groups in the order of a walk. A walk over a group and all below it is one part of this
+//! list (kernel: mem_cgroup_iter).
 
 ghost use Rattle.std.specs.Prelude.{◌≡◌, ℕ, ◌+◌, ◌<◌, ◌≤◌, ◌++◌, ◌∷◌, [], true, false, length, slice_index, Some, IfOk, OnOk};
 ghost use Rattle.machine.specs.Tree.{Node, root, is_live, has_children, share, without_group};
@@ -11,19 +11,19 @@ use crate::tree::Group;
 use machine::id::GroupId;
 use std::alloc::{AllocError, Global};
 
-/// The walk from the root over all live groups, and which part of it is a group's.
+/// The walk from the root over all live groups, and each group's part of it.
 #[derive(Drop)]
 pub struct Walk {
-    /// The live groups, each before those below it, and children in order of making.
+    /// The live groups. Each comes before those below it, and children are in order of making.
     pub order: Vec<GroupId>,
-    /// By number: where a live group stands in the order. Behind it stand those below it.
+    /// By number: the place of a live group in the order. The groups below it follow it.
     pub places: Vec<usize>,
     /// By number: how many groups are at and below a live one.
     pub spans: Vec<usize>,
 }
 
 impl Walk {
-    /// The root alone. `AllocError` where there is no memory for it.
+    /// Only the root. `AllocError` if there is no memory for it.
     pub fn open(alloc: Global) -> Result<Self, AllocError>
         ensures { IfOk result (λ walk. IsWalkOf (root ∷ []) walk) }
     {
@@ -40,8 +40,8 @@ impl Walk {
         })
     }
 
-    /// Asks for the memory of one group more. `AllocError` where there is none; the walk is the same
-    /// either way.
+    /// Reserves the memory for another group. `AllocError` if memory runs out. The walk does not
+    /// change in either case.
     pub fn reserve(&mut self) -> Result<(), AllocError>
         ensures room { OnOk result (HasRoom self.new) }
         ensures order { self.new.order.items ≡ self.old.order.items }
@@ -53,8 +53,8 @@ impl Walk {
         self.spans.reserve(1)
     }
 
-    /// A new group comes behind all at and below its parent, as the last of its children (kernel:
-    /// list_add_tail_rcu). Its memory was asked for.
+    /// Adds a new group as the last child of its parent, after all groups at and below the parent
+    /// (kernel: list_add_tail_rcu). Its memory was reserved.
     pub fn insert(&mut self, groups: &[Group], group: GroupId, parent: GroupId)
         requires tree { IsGroupTree (nodes_of groups.now) }
         requires walk { IsWalkOf (nodes_of groups.now) self.old }
@@ -65,7 +65,7 @@ impl Walk {
             → IsWalkOf (nodes_of groups.now ++ node ∷ []) self.new }
     {
         let place = self.places[parent.0 as usize] + self.spans[parent.0 as usize];
-        // The memory is there, so that this cannot fail.
+        // The memory was reserved, so this cannot fail.
         let _ = self.order.insert(place, group);
         self.places.push_reserved(place);
         self.spans.push_reserved(1);
@@ -73,7 +73,7 @@ impl Walk {
         widen(groups, &mut self.spans, Some(parent));
     }
 
-    /// A group that has no children is taken out (kernel: list_del_rcu). It is not the root.
+    /// Removes a group that has no children (kernel: list_del_rcu). It is not the root.
     pub fn remove(&mut self, groups: &[Group], group: GroupId)
         requires tree { IsGroupTree (nodes_of groups.now) }
         requires walk { IsWalkOf (nodes_of groups.now) self.old }
@@ -89,7 +89,7 @@ impl Walk {
     }
 }
 
-/// The groups from a place on have moved, and are told where they stand now.
+/// Updates the places of the groups from one place on, which have moved.
 fn place_from(order: &[GroupId], places: &mut [usize], from: usize)
     requires from { from ≤ length order.now }
     requires within { (i : ℕ) → i < length order.now → slice_index (numbers_of order.now) i < length places.old }
@@ -103,7 +103,7 @@ fn place_from(order: &[GroupId], places: &mut [usize], from: usize)
     }
 }
 
-/// One group more is at or below a group, and so at or below each above it.
+/// Adds one to the size of a group and of each group above it.
 fn widen(groups: &[Group], spans: &mut [usize], from: Option<GroupId>)
     requires tree { IsGroupTree (nodes_of groups.now) }
     requires len { length groups.now ≤ length spans.old }
@@ -119,7 +119,7 @@ fn widen(groups: &[Group], spans: &mut [usize], from: Option<GroupId>)
     }
 }
 
-/// One group less is at or below a group, and so at or below each above it.
+/// Takes one from the size of a group and of each group above it.
 fn narrow(groups: &[Group], spans: &mut [usize], from: Option<GroupId>)
     requires tree { IsGroupTree (nodes_of groups.now) }
     requires len { length groups.now ≤ length spans.old }

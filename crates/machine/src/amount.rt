@@ -8,7 +8,7 @@ ghost use Rattle.machine.specs.Amounts.{exceeds, at_most};
 pub enum Amount {
     /// More than every count.
     Max,
-    /// So many pages of 4,096 bytes.
+    /// This many pages of 4,096 bytes.
     Pages(u64),
 }
 
@@ -23,7 +23,7 @@ impl Amount {
         }
     }
 
-    /// Whether one more than the count would be more than the amount.
+    /// Whether the count plus one exceeds the amount.
     pub fn is_full(self, count: u64) -> bool
         ensures { result ≡ exceeds (count + 1) self }
     {
@@ -33,7 +33,7 @@ impl Amount {
         }
     }
 
-    /// The lesser of the count and the amount.
+    /// The smaller of the count and the amount.
     pub fn at_most(self, count: u64) -> u64
         ensures { result ≡ at_most count self }
     {

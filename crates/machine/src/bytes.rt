@@ -8,7 +8,7 @@ use std::marker::Model;
 /// Bytes of a page (kernel: `PAGE_SIZE`).
 pub const PAGE_BYTES: usize = 4096;
 
-/// What a page held when it was read in.
+/// The bytes that a page had when it was read in.
 #[derive(Drop)]
 pub struct PageBytes {
     bytes: Box<[u8; PAGE_BYTES]>,
@@ -23,14 +23,14 @@ impl Model for PageBytes {
 }
 
 impl PageBytes {
-    /// These bytes.
+    /// Takes these bytes.
     pub fn new(bytes: Box<[u8; PAGE_BYTES]>) -> Self
         ensures { result ≡ bytes.value }
     {
         PageBytes { bytes }
     }
 
-    /// The same bytes, to be read.
+    /// The same bytes, lent for reading.
     pub fn bytes(&self) -> &[u8; PAGE_BYTES]
         ensures { result.now ≡ self.now }
     {

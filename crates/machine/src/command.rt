@@ -1,4 +1,4 @@
-//! What an actor is told to do, and what comes of it.
+//! The commands of an actor, and their answers.
 
 ghost use Rattle.std.specs.Prelude.{◌≡◌, IfOk};
 
@@ -9,75 +9,75 @@ use crate::refusal::Refusal;
 use crate::text::Text;
 use std::alloc::{AllocError, Global};
 
-/// Who does something.
+/// The source of a command.
 #[derive(Clone, Copy, Debug)]
 pub enum Actor {
-    /// The task of this number, whether it is there or not.
+    /// The task of this number, whether it exists or not.
     Task(u32),
-    /// Who makes groups and tasks, and reads and writes control files.
+    /// Makes groups and tasks, and reads and writes control files.
     Shell,
-    /// Does what the shell does, beside it.
+    /// Does what the shell does, as an actor of its own.
     Control,
-    /// Takes pages from all groups where few frames are free (kernel: kswapd).
+    /// Evicts pages of all groups when few frames are free (kernel: kswapd).
     Daemon,
 }
 
-/// What an actor is told to do: `Access`, `Fork`, `Free` and `Exit` are for a task, `Daemon` for the
-/// daemon, all others for the shell and for control.
+/// A command of an actor: `Access`, `Fork`, `Free` and `Exit` are for a task, `Daemon` for the daemon, all
+/// others for the shell and for control.
 #[derive(Drop)]
 pub enum Command {
     Access {
         place: Place,
         op: Op,
     },
-    /// The task makes a child of this number.
+    /// The task forks a child of this number.
     Fork {
         child: u32,
     },
-    /// The task gives a virtual page up.
+    /// The task frees a virtual page.
     Free {
         page: u32,
     },
     /// The task ends.
     Exit,
-    /// Makes the group of a path.
+    /// Makes the group with this path.
     Group(Text),
-    /// Removes the group of a path.
+    /// Removes the group with this path.
     Rmdir(Text),
-    /// Starts a task in the group of a path.
+    /// Starts a task in the group with this path.
     Task {
         task: u32,
         path: Text,
     },
-    /// Moves a task to the group of a path.
+    /// Moves a task to the group with this path.
     Attach {
         task: u32,
         path: Text,
     },
-    /// Writes a text to a control file of the group of a path.
+    /// Writes a text to a control file of the group with this path.
     Set {
         path: Text,
         file: Text,
         text: Text,
     },
-    /// Prints a control file of the group of a path.
+    /// Prints a control file of the group with this path.
     Cat {
         path: Text,
         file: Text,
     },
-    /// Prints the effective `memory.min`, or `memory.low`, of the group of a path, for a reclaim of the
-    /// target's.
+    /// Prints the effective `memory.min`, or `memory.low`, of the group with this path, for a reclaim of
+    /// the target.
     Protection {
         guard: Guard,
         target: Text,
         path: Text,
     },
-    /// One run of the daemon.
+    /// Runs the daemon once.
     Daemon,
 }
 
 impl Command {
-    /// A copy. It fails only where memory is wanted and refused.
+    /// A copy. It fails only if memory runs out.
     pub fn copy(&self, alloc: Global) -> Result<Command, AllocError>
         ensures { IfOk result (λ c. c ≡ self.now) }
     {
@@ -125,30 +125,30 @@ impl Command {
 /// A line of a schedule.
 #[derive(Drop)]
 pub enum Step {
-    /// The actor's command is this from now on, unless its last one is not answered yet.
+    /// The actor starts this command, unless its last one is not answered yet.
     Begin(Actor, Command),
-    /// One turn of the actor's command.
+    /// Runs one turn of the actor's command.
     Advance(Actor),
-    /// Turns of the actor's command until it is answered, at most 1,000.
+    /// Runs turns of the actor's command until it is answered, at most 1,000.
     Finish(Actor),
 }
 
-/// The words that an answer can be.
+/// The answers that are single words.
 #[derive(Clone, Copy, Debug, PartialEq, Eq)]
 pub enum Word {
     /// The task was killed before.
     Killed,
     /// The actor has no command.
     Idle,
-    /// `busy`: the page is in transfer, or a page under the group is and may come free.
+    /// `busy`: the page is in transfer, or a page at or below the group is and may become free.
     Busy,
     /// `EIO`: a call of the device failed.
     Io,
-    /// `ENOMEM`: nothing can be reclaimed and there is nobody to kill.
+    /// `ENOMEM`: nothing can be reclaimed and there is no task to kill.
     OutOfMemory,
-    /// `EAGAIN`: not as much could be taken as was asked for.
+    /// `EAGAIN`: fewer pages were reclaimed than the command requested.
     Again,
-    /// 1,000 turns brought no answer. The command stays under way.
+    /// The command got no answer in 1,000 turns. It stays in progress.
     TurnLimit,
     /// The actor's command is not answered yet.
     Underway,
@@ -160,19 +160,19 @@ pub enum Word {
 pub enum Answer {
     /// The byte that was read.
     Byte(u8),
-    /// What a control file says.
+    /// The contents of a control file.
     Text(Text),
     /// The command is done, and prints nothing.
     Done,
-    /// A kill of one task, at the moment it is made. The command goes on.
+    /// A kill of one task, at the moment of the kill. The command continues.
     Kill(TaskId),
-    /// A kill of all tasks of a group and below it, so many with the victim, at the moment it is made. The
-    /// command goes on.
+    /// A kill of all tasks in and below a group, at the moment of the kill. The number of tasks includes
+    /// the victim. The command continues.
     KillAll { victim: TaskId, tasks: u32 },
     Word(Word),
 }
 
-/// An answer, with the actor whose command it comes of.
+/// An answer, and the actor whose command it answers.
 #[derive(Debug, Drop)]
 pub struct Reply {
     pub actor: Actor,

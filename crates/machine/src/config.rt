@@ -1,4 +1,4 @@
-//! What the opening of a run fixes.
+//! What the opening of a run determines.
 
 ghost use Rattle.std.specs.Prelude.{◌≡◌, ◌++◌, ◌∷◌, [], OnOk, OnErr};
 ghost use Rattle.machine.specs.State.{are_watermarks, is_sized};
@@ -8,18 +8,18 @@ use crate::text::Text;
 use std::alloc::{AllocError, Global};
 use std::marker::Model;
 
-/// The daemon's marks, in free frames, `low` at most `high` and `high` at most the frames (kernel:
-/// `WMARK_LOW` and `WMARK_HIGH` of a `struct zone`).
+/// The daemon's watermarks, in free frames. `low` is at most `high`, and `high` is at most the number of frames
+/// (kernel: `WMARK_LOW` and `WMARK_HIGH` of a `struct zone`).
 #[derive(Clone, Copy, Default)]
 pub struct Watermarks {
-    /// The daemon begins where fewer frames are free.
+    /// The daemon starts when fewer frames than this are free.
     pub low: u32,
-    /// It ends where so many are.
+    /// It stops when this many frames are free.
     pub high: u32,
 }
 
 impl Watermarks {
-    /// Whether the low mark is at most the high one, and that at most the frames.
+    /// Whether the low watermark is at most the high one, and the high one at most the number of frames.
     pub fn are_in_order(self, frames: u32) -> bool
         ensures { result ≡ are_watermarks self frames }
     {
@@ -27,14 +27,14 @@ impl Watermarks {
     }
 }
 
-/// A file: its name, of 1 to 32 characters as that of a group, and how many pages it has, at least one.
+/// A file: its name, of 1 to 32 characters as in the name of a group, and its number of pages, at least one.
 #[derive(Drop)]
 pub struct File {
     pub name: Text,
     pub pages: u32,
 }
 
-/// Files, each by its place in the list. A contract sees it as that list.
+/// Files, each identified by its place in the list. A contract sees the value as that list.
 #[derive(Drop)]
 pub struct FileList {
     files: Vec<File>,
@@ -50,7 +50,7 @@ impl Model for FileList {
 }
 
 impl FileList {
-    /// No file. Takes no memory.
+    /// An empty list. Allocates no memory.
     pub fn new(alloc: Global) -> Self
         ensures { result ≡ [] }
     {
@@ -59,8 +59,7 @@ impl FileList {
         }
     }
 
-    /// The file is the last from now on. It fails only where memory is wanted and refused, and then nothing
-    /// changes.
+    /// Adds the file at the end. It fails only if memory runs out, and then nothing changes.
     pub fn push(&mut self, file: File) -> Result<(), AllocError>
         ensures added { OnOk result (self.new ≡ self.old ++ file ∷ []) }
         ensures same { OnErr result (self.new ≡ self.old) }
@@ -77,16 +76,16 @@ impl FileList {
     }
 }
 
-/// Where a page enters the generation lists that was read in, and whether the access that had it read in marks it.
-/// Memory that a task makes or copies enters the youngest generation under both, and so does a page that could not be
-/// written out.
+/// Which generation list a page enters when it is read in, and whether the access that read it in marks it. Under both
+/// rules, memory that a task makes or copies enters the youngest generation. So does a page that could not be written
+/// out.
 #[derive(Clone, Copy, Debug, PartialEq, Eq)]
 pub enum Placement {
-    /// A rule of our own: the second youngest generation, whatever the page holds; and the access marks it.
+    /// Our own rule: every page that is read in enters the second youngest generation, and the access marks it.
     Own,
-    /// As Linux does it (kernel: `lru_gen_add_folio`): memory that comes from swap enters the youngest generation, and
-    /// a page of a file the second oldest, where that is none of the two youngest, and else the oldest. An access to a
-    /// file doesn't mark a page that it had read in.
+    /// Linux's rule (kernel: `lru_gen_add_folio`): memory that comes from swap enters the youngest generation. A page
+    /// of a file enters the second oldest, unless that is one of the two youngest; then it enters the oldest. An
+    /// access to a file doesn't mark a page that it read in.
     Linux,
 }
 
@@ -95,26 +94,26 @@ pub enum Placement {
 pub struct Config {
     /// Page frames, 1 to 65,536.
     pub frames: u32,
-    /// Swap blocks, at most 65,536. The device has them as its first.
+    /// Swap blocks, at most 65,536. They are the first blocks of the device.
     pub swap: u32,
-    /// Files, at most 64, no two of one name. The device has a block for each of their pages, behind the
-    /// swap blocks and in their order, and all blocks together are at most 131,072.
+    /// Files, at most 64, with different names. The device has a block for each of their pages, after the swap blocks
+    /// and in their order. All blocks together are at most 131,072.
     pub files: FileList,
-    /// The daemon's marks.
+    /// The daemon's watermarks.
     pub watermarks: Watermarks,
-    /// The trace's limit, 1 to 1,048,576 entries.
+    /// The limit of the trace, 1 to 1,048,576 entries.
     pub trace: u32,
-    /// The most turns of a line of a schedule that is run to its answer. The machine itself takes no heed of it.
+    /// The most turns of a schedule's line that runs until it is answered. The machine itself ignores it.
     pub turns: u32,
-    /// Whether a group has a part of the protection that its siblings leave, too (kernel: the mount option
+    /// Whether a group also gets a share of the protection that its siblings do not claim (kernel: the mount option
     /// memory_recursiveprot).
     pub recursive: bool,
-    /// Where pages enter the generation lists that are read in.
+    /// Which generation list a page enters when it is read in.
     pub placement: Placement,
 }
 
 impl Config {
-    /// Whether each number is within its limits and the marks are in order, whatever the files are.
+    /// Whether each number is within its limits and the watermarks are in order. The files are not checked.
     pub fn is_sized(&self) -> bool
         ensures { result ≡ is_sized self.now }
     {

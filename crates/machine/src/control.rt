@@ -2,8 +2,7 @@
 
 use crate::record::Guard;
 
-/// A control file (admin-guide/cgroup-v2, "Memory Interface Files"). The root has `memory.reclaim`
-/// alone.
+/// A control file (admin-guide/cgroup-v2, "Memory Interface Files"). The root has only `memory.reclaim`.
 #[derive(Clone, Copy, Debug, PartialEq, Eq)]
 pub enum ControlFile {
     /// `memory.current`, which is read.
@@ -14,13 +13,13 @@ pub enum ControlFile {
     Guard(Guard),
     /// `memory.oom.group`, which is read and written.
     OomGroup,
-    /// `memory.events`, which is read: what was counted at the group and below it.
+    /// `memory.events`, which is read: the counts of the group and of all groups below it.
     Events,
-    /// `memory.events.local`, which is read: what was counted at the group itself.
+    /// `memory.events.local`, which is read: the counts of the group itself.
     EventsLocal,
-    /// `memory.stat`, which is read: how many of the pages that are charged are memory of tasks, and how
-    /// many are pages of files.
+    /// `memory.stat`, which is read: how many of the charged pages are memory of tasks, and how many are
+    /// pages of files.
     Stat,
-    /// `memory.reclaim`, which is written: as much is to be taken from the group and from below it.
+    /// `memory.reclaim`, which is written: an amount to reclaim from the group and from below it.
     Reclaim,
 }

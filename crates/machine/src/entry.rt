@@ -7,9 +7,9 @@ use crate::reply::Reply;
 /// An event that was not refused, with its reply.
 #[derive(Drop)]
 pub struct Entry {
-    /// Who asked.
+    /// The worker that made the request.
     pub worker: WorkerId,
-    /// The place of this entry among the worker's, from 1.
+    /// The place of this entry among the worker's entries, counted from 1.
     pub count: u64,
     pub event: Event,
     pub reply: Reply,

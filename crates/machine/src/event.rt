@@ -1,5 +1,5 @@
-//! What is asked of the machine: events as they stand in a history, and the merge of marks, which stands in
-//! none.
+//! Requests to the machine: the events that a history contains, and the merge of marks, which no history
+//! contains.
 
 use crate::amount::Amount;
 use crate::bytes::PageBytes;
@@ -7,13 +7,13 @@ use crate::id::{GroupId, TaskId, TicketId};
 use crate::record::{Guard, OomGroup};
 use crate::text::Text;
 
-/// Where an access goes.
+/// The place that an access reads or writes.
 #[derive(Clone, Copy, PartialEq, Eq)]
 pub enum Place {
     /// A byte of a virtual page of the task.
     Virtual { page: u32, offset: u32 },
-    /// A byte of a file, whichever task reaches for it. A file's number is its place in the opening's list
-    /// (kernel: `filemap_read` and `generic_perform_write`).
+    /// A byte of a file, for any task. A file's number is its place in the opening's list (kernel:
+    /// `filemap_read` and `generic_perform_write`).
     File { file: u32, page: u32, offset: u32 },
 }
 
@@ -24,12 +24,12 @@ pub enum Op {
     Write(u8),
 }
 
-/// Why room is wanted.
+/// Why room is needed.
 #[derive(Clone, Copy, Debug, PartialEq, Eq)]
 pub enum Cause {
-    /// A charge was refused at the group.
+    /// The group had no room for a charge.
     Charge(GroupId),
-    /// The group's max was set, and what it holds may be more.
+    /// The group's max was set, and its count may be above it.
     Lower(GroupId),
     /// No frame was free.
     Frame,
@@ -46,7 +46,7 @@ pub enum Setting {
     OomGroup(OomGroup),
 }
 
-/// Whose numbers are asked for: those of one control file of one group, or a group's protection.
+/// Which numbers are requested: a control file of a group, or a group's protection.
 #[derive(Clone, Copy, PartialEq, Eq)]
 pub enum Query {
     /// `memory.current`
@@ -85,34 +85,33 @@ pub enum Event {
     Left(TicketId),
     /// A page could not be written.
     LeaveFailed(TicketId),
-    /// Room is wanted (kernel: a turn of `try_to_free_mem_cgroup_pages`, or `mem_cgroup_out_of_memory`).
+    /// Room is needed (kernel: a turn of `try_to_free_mem_cgroup_pages`, or `mem_cgroup_out_of_memory`).
     Relieve(Cause),
-    /// A page is to be taken from the group or from below it, for whoever asks for it (kernel:
-    /// memory_reclaim, and a turn of kswapd).
+    /// Reclaims a page of the group or of a group below it, on request (kernel: memory_reclaim, and a turn
+    /// of kswapd).
     ReclaimOne(GroupId),
     /// A new task of a group.
     Spawn { task: TaskId, group: GroupId },
-    /// A new task in the group of another, whose virtual pages show what the other's show (kernel:
-    /// `copy_process`, `dup_mmap`).
+    /// A new task in the group of another. Its virtual pages map the same pages (kernel: `copy_process`,
+    /// `dup_mmap`).
     Fork { task: TaskId, child: TaskId },
     /// A task ends by itself (kernel: `do_exit`, `exit_mmap`).
     Exit(TaskId),
-    /// A virtual page of a task shows nothing from then on (kernel: `madvise` with MADV_DONTNEED).
+    /// A virtual page of a task maps nothing from then on (kernel: `madvise` with MADV_DONTNEED).
     Free { task: TaskId, page: u32 },
-    /// A task is of this group from then on. What it was charged for stays charged where it is (kernel:
-    /// `cgroup_attach_task`).
+    /// A task moves to this group. Its earlier charges stay where they are (kernel: `cgroup_attach_task`).
     Attach { task: TaskId, group: GroupId },
     /// A new group, by its path.
     Mkdir(Text),
-    /// A group is removed, and its pages go to its parent, which is charged for them from then on (kernel:
+    /// A group is removed. Its pages become its parent's, which is charged for them from then on (kernel:
     /// `cgroup_rmdir`, `mem_cgroup_css_offline`).
     Rmdir(GroupId),
     /// A control file is written.
     Set { group: GroupId, setting: Setting },
-    /// A control file's numbers are asked for.
+    /// The numbers of a control file are requested.
     Show(Query),
-    /// The pages that are held in frames of this word were used, where the frame's bit is set: bit
-    /// `frame % 64` of word `frame / 64` (kernel: a walk over the accessed bits, `walk_mm`). No history
-    /// has one: it is a hint, and leaves no entry.
+    /// Marks pages as used: those that are held in the frames of this word whose bit is set. Bit
+    /// `frame % 64` of word `frame / 64` belongs to the frame (kernel: a walk over the accessed bits,
+    /// `walk_mm`). This is a hint and leaves no entry, so no history contains it.
     MergeMarks { word: u32, bits: u64 },
 }

@@ -1,20 +1,21 @@
-//! The numbers that name things.
+//! The numbers that identify things.
 
-/// A group, by its place in the order of making. The root is 0, and no number is used again.
+/// A group. The number is its place in the order of making: the root is 0, and no number is used
+/// again.
 #[derive(Clone, Copy, Debug, Default, PartialEq, Eq)]
 pub struct GroupId(pub u32);
 
 impl GroupId {
-    /// The group that all others hang below.
+    /// The group that is above all others.
     pub const ROOT: GroupId = GroupId(0);
 }
 
-/// A task. Those that are there have numbers from 1 to 65,535, each used once.
+/// A task. Existing tasks have numbers from 1 to 65,535, each used once.
 #[derive(Clone, Copy, Debug, PartialEq, Eq)]
 pub struct TaskId(pub u32);
 
-/// A page. How many numbers there are comes from the opening, at least as many as frames and swap
-/// blocks; a number is used again once its page is gone.
+/// A page. The opening determines how many numbers there are: at least the number of frames plus
+/// swap blocks. A number is used again once its page is gone.
 #[derive(Clone, Copy, Debug, PartialEq, Eq)]
 pub struct PageId(pub u32);
 
@@ -26,6 +27,6 @@ pub struct FrameId(pub u32);
 #[derive(Clone, Copy, Debug, PartialEq, Eq)]
 pub struct TicketId(pub u32);
 
-/// A worker, by the pass that it was given.
+/// A worker. Its number comes from its pass.
 #[derive(Clone, Copy, PartialEq, Eq)]
 pub struct WorkerId(pub u32);

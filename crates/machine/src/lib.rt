@@ -1,8 +1,8 @@
-//! The plain machine of memory control groups: the words of its history, and in `specs/` what it may do.
+//! The plain machine of memory control groups: the types of its history, and in `specs/` what it may do.
 //!
-//! Nothing here runs a group. The types are what events, replies and histories are made of, as plain
-//! data; the definitions say which histories are right, over whole lists and with no counter, list
-//! link or page byte. Every crate above cites them and adds none of its own.
+//! Nothing here runs a group. The types are plain data, of which events, replies and histories are made.
+//! The definitions say which histories are right, over whole lists and with no counter, list link or
+//! page byte. Every crate that uses this one cites them and adds none of its own.
 #![tactic(auto)]
 
 pub mod amount;

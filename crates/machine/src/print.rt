@@ -30,7 +30,7 @@ impl fmt::Display for Word {
     }
 }
 
-/// Adds what stands before a word of the actor's: a task's number, `error`, or `daemon`.
+/// Adds the beginning of the actor's lines: a task's number, `error`, or `daemon`.
 fn add_actor(text: &mut String, actor: Actor) -> Result<(), AllocError>
     ensures { OnOk result (string_bytes text.new ≡ string_bytes text.old ++ actor_text actor) }
 {
@@ -51,14 +51,14 @@ fn add_byte(text: &mut String, actor: Actor, byte: u8) -> Result<(), AllocError>
     }
 }
 
-/// Adds the line of a kill of a group, with its victim and how many died.
+/// Adds the line of a group kill, with its victim and the number of tasks that died.
 fn add_group_kill(text: &mut String, victim: TaskId, tasks: u32) -> Result<(), AllocError>
     ensures { OnOk result (string_bytes text.new ≡ string_bytes text.old ++ group_kill_text victim.0 tasks) }
 {
     writeln!(text, "killed group {} {tasks}", victim.0)
 }
 
-/// Adds the line of a word to the actor.
+/// Adds the line of a word for the actor.
 fn add_word(text: &mut String, actor: Actor, word: Word) -> Result<(), AllocError>
     ensures { OnOk result (string_bytes text.new ≡ string_bytes text.old ++ answer_text actor (Answer.Word word)) }
 {
@@ -67,10 +67,10 @@ fn add_word(text: &mut String, actor: Actor, word: Word) -> Result<(), AllocErro
 }
 
 impl Reply {
-    /// Adds what the answer prints: a task's byte or word behind the task's number, a control file's
-    /// text as it is, the word of the shell or of control behind `error`, that of the daemon behind
-    /// `daemon`, a kill as `killed N`, that of a group as `killed group N TASKS`.
-    /// `Done` prints nothing.
+    /// Adds the line of the answer. A task's byte or word follows the task's number. A control
+    /// file's text is added as it is. A word of the shell or of control follows `error`, and one of
+    /// the daemon follows `daemon`. A kill is `killed N`, and a group kill is
+    /// `killed group N TASKS`. `Done` prints nothing.
     pub fn print(&self, text: &mut String) -> Result<(), AllocError>
         ensures { OnOk result (string_bytes text.new ≡ string_bytes text.old ++ printed self.now) }
     {

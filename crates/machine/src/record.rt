@@ -9,11 +9,11 @@ pub enum Life {
     Live,
     /// It ended by itself.
     Exited,
-    /// Relief ended it (kernel: an OOM kill).
+    /// Relief killed it (kernel: an OOM kill).
     Killed,
 }
 
-/// A task. Its number stands beside it.
+/// A task, without its number, which is kept apart.
 #[derive(Clone, Copy, Debug, PartialEq, Eq)]
 pub struct Task {
     /// The group that its new pages are charged to.
@@ -21,7 +21,7 @@ pub struct Task {
     pub life: Life,
 }
 
-/// Which way a page in transfer goes.
+/// The direction of a page in transfer.
 #[derive(Clone, Copy, PartialEq, Eq)]
 pub enum Direction {
     /// It is being read in.
@@ -37,7 +37,7 @@ pub enum Kind {
     File,
 }
 
-/// What is counted in `memory.events`.
+/// The keys of `memory.events`.
 #[derive(Clone, Copy, PartialEq, Eq)]
 pub enum Key {
     Low,
@@ -51,11 +51,11 @@ pub enum Key {
 /// How often each key was counted (kernel: `memory_events` of a `struct mem_cgroup`).
 #[derive(Clone, Copy, Debug, Default, PartialEq, Eq)]
 pub struct EventCounts {
-    /// A page of the group was taken though its low protects it.
+    /// A page of the group was reclaimed although the group's low protects it.
     pub low: u64,
-    /// The throttling limit was passed. It is always 0, since there is none.
+    /// The group exceeded the throttling limit. This is always 0, since there is no such limit.
     pub high: u64,
-    /// A charge was refused at the group's max.
+    /// A charge failed at the group's max.
     pub max: u64,
     /// Nothing could be reclaimed under the group.
     pub oom: u64,
@@ -65,7 +65,7 @@ pub struct EventCounts {
     pub oom_group_kill: u64,
 }
 
-/// How much memory is charged to a group and below it, by what it holds, in pages (kernel: `anon` and
+/// How much memory is charged to a group and to those below it, by type, in pages (kernel: `anon` and
 /// `file` of `memory.stat`).
 #[derive(Clone, Copy, Debug, Default, PartialEq, Eq)]
 pub struct MemoryStat {
@@ -78,30 +78,30 @@ pub struct MemoryStat {
 /// Which of its two settings protects a group from a reclaim above it.
 #[derive(Clone, Copy, Debug, PartialEq, Eq)]
 pub enum Guard {
-    /// `memory.min`: what it protects is never taken.
+    /// `memory.min`: what it protects is never reclaimed.
     Min,
-    /// `memory.low`: what it protects is taken only where nothing else is left to take.
+    /// `memory.low`: what it protects is reclaimed only if nothing else is left to reclaim.
     Low,
 }
 
-/// Whether the killer takes a group as one (kernel: `oom_group` of a `struct mem_cgroup`).
+/// Whether the OOM killer kills a group as one (kernel: `oom_group` of a `struct mem_cgroup`).
 #[derive(Clone, Copy, Debug, Default, PartialEq, Eq)]
 pub enum OomGroup {
     /// `0`: its tasks are killed one at a time.
     #[default]
     Single,
-    /// `1`: where one of its tasks is to be killed, all of them are, and those of the groups below it.
+    /// `1`: if one of its tasks is the victim, all of them die, and all tasks of the groups below it.
     Whole,
 }
 
 /// The limits of a group.
 #[derive(Clone, Copy)]
 pub struct Limits {
-    /// `memory.max`: no charge passes it.
+    /// `memory.max`: no charge exceeds it.
     pub max: Amount,
     /// `memory.min`: how much is protected from reclaim.
     pub min: Amount,
-    /// `memory.low`: how much is protected from reclaim as long as others have something to give.
+    /// `memory.low`: how much is protected from reclaim while other groups have pages to reclaim.
     pub low: Amount,
 }
 
@@ -109,14 +109,14 @@ impl Limits {
     ghost use Rattle.std.specs.Prelude.{◌≡◌};
     ghost use Rattle.machine.specs.Counts.{guard_of, with_guard};
 
-    /// A new group's: no limit and no protection.
+    /// The limits of a new group: no limit and no protection.
     pub const NONE: Limits = Limits {
         max: Amount::Max,
         min: Amount::Pages(0),
         low: Amount::Pages(0),
     };
 
-    /// How much this one of the two protects.
+    /// How much this one of the two settings protects.
     pub fn guard(self, guard: Guard) -> Amount
         ensures { result ≡ guard_of guard self }
     {
@@ -126,7 +126,7 @@ impl Limits {
         }
     }
 
-    /// These, with another value of this one of the two.
+    /// The same limits, with another value of this one of the two settings.
     pub fn with_guard(self, guard: Guard, amount: Amount) -> Limits
         ensures { result ≡ with_guard self guard amount }
     {

@@ -1,31 +1,32 @@
-//! Why an event, a command, an opening or a pass was refused. What is refused changed nothing.
+//! Why an event, a command, an opening or a pass was refused. A refusal changes nothing.
 
 use std::fmt;
 
 #[derive(Clone, Copy, Debug, PartialEq, Eq)]
 pub enum Refusal {
-    /// `EEXIST`: the group is there.
+    /// `EEXIST`: the group exists already.
     Exists,
     /// `ENOENT`: there is no such group or file.
     NoEntry,
-    /// `EBUSY`: a group other than the root keeps tasks or child groups, not both.
+    /// `EBUSY`: a group other than the root may have tasks or child groups, not both.
     Busy,
-    /// `ENOSPC`: as many groups, levels, tasks or passes as there can be.
+    /// `ENOSPC`: the limit of groups, levels, tasks or passes is reached.
     NoSpace,
-    /// `ESRCH`: no such live task; where the task itself is told that it was killed, none that was.
+    /// `ESRCH`: no live task has this number. If the event answers `Killed` for a killed task, no
+    /// killed task has it either.
     NoTask,
     /// The task's number was used before.
     NumberUsed,
-    /// The trace has no room for the entries that the reply needs.
+    /// The trace has no room for the entries that the reply adds.
     TraceFull,
-    /// Memory was wanted and refused.
+    /// Memory ran out.
     NoMemory,
-    /// The ticket is none of a transfer in flight here, or another pass took it.
+    /// The ticket belongs to no transfer in flight here, or another pass took it.
     Stranger,
     /// There is no such virtual page, or no such offset in it.
     BadPlace,
-    /// `EINVAL`: a path that is none, a task's number out of range, an amount, a file's mode, a
-    /// configuration out of its limits, or a command that is none of its actor's.
+    /// `EINVAL`: an invalid path or amount, a task's number out of range, a file's mode, a
+    /// configuration out of its limits, or a command that is not one of its actor's.
     Invalid,
 }
 

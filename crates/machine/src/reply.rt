@@ -1,11 +1,12 @@
-//! What the machine answers, as it stands in a history.
+//! The machine's replies, as a history contains them.
 
 use crate::amount::Amount;
 use crate::id::{FrameId, GroupId, TaskId, TicketId};
 use crate::record::{EventCounts, MemoryStat, OomGroup};
 use crate::refusal::Refusal;
 
-/// What a control file shows: pages, an amount, a flag, how often events were counted, or pages by type.
+/// What a control file shows: pages, an amount, a flag, how often each key was counted, or pages by
+/// type.
 #[derive(Clone, Copy, Debug, PartialEq, Eq)]
 pub enum Shown {
     Pages(u64),
@@ -23,7 +24,7 @@ pub enum Reply {
         byte: u8,
         hit: Option<FrameId>,
     },
-    /// The page is being read in, under this ticket.
+    /// The page is now being read in, under this ticket.
     Fetch(TicketId),
     /// No charge: this is the lowest group without room.
     Over(GroupId),
@@ -36,26 +37,26 @@ pub enum Reply {
     Ok,
     /// There is room.
     Room,
-    /// A clean file page was let go.
+    /// A clean file page was dropped.
     Dropped,
-    /// A page is being written out, under this ticket.
+    /// A page is now being written out, under this ticket.
     Out(TicketId),
-    /// A page is in transfer, and may come free.
+    /// A page is in transfer, and may become free.
     Wait,
-    /// There is no page to be taken, and none in transfer.
+    /// No page can be reclaimed, and none is in transfer.
     Nothing,
-    /// Relief killed this task, and it alone.
+    /// Relief killed this task alone.
     KilledTask(TaskId),
-    /// Relief chose this victim, and killed all tasks of this group and of those below it: so many, the
-    /// victim counted.
+    /// Relief chose this victim, and killed all tasks in and below this group. The number includes the
+    /// victim.
     KilledAll {
         victim: TaskId,
         group: GroupId,
         tasks: u32,
     },
-    /// Relief found nobody to kill.
+    /// Relief found no task to kill.
     NoVictim,
     Shown(Shown),
-    /// Nothing was done, for this cause.
+    /// Nothing changed, for this reason.
     Refused(Refusal),
 }

@@ -1,8 +1,8 @@
-//! What was done with a seat.
+//! The history of a seat.
 
 use std::collections::LinkedList;
 
-/// What a set found: the frame's mark as it was just before.
+/// What a set found: the frame's mark just before it.
 #[derive(Clone, Copy, PartialEq, Eq, Debug, Drop)]
 pub enum Found {
     /// The frame was not marked. This set marked it.
@@ -17,14 +17,14 @@ pub struct Setting {
     pub found: Found,
 }
 
-/// One harvest, and the marks that it took: bit b is that of frame `64 * word + b`.
+/// One harvest, and the marks that it cleared: bit b belongs to frame `64 * word + b`.
 pub struct Harvest {
     pub word: u32,
     pub bits: u64,
 }
 
 /// All sets and all harvests with a seat, the oldest first, and the seat's parts. No value of this type
-/// is ever made: contracts speak of it, and a run has nothing of it.
+/// ever exists in a run: only contracts use it.
 pub struct Log {
     pub parts: u64,
     pub sets: LinkedList<Setting>,

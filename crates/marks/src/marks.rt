@@ -26,7 +26,7 @@ impl TableRule<(), Log, u64> for Fair {
     ghost first = { λ _. fresh (2 ^ 32) };
 }
 
-// What a set tells whoever steps.
+// What a set lets its caller learn.
 struct Marking;
 
 impl Play<(), Log> for Marking {
@@ -35,7 +35,7 @@ impl Play<(), Log> for Marking {
     ghost then = { SetsFrame };
 }
 
-// What a harvest tells whoever steps.
+// What a harvest lets its caller learn.
 struct Harvesting;
 
 impl Play<(), Log> for Harvesting {
@@ -44,7 +44,7 @@ impl Play<(), Log> for Harvesting {
     ghost then = { HarvestsWord };
 }
 
-// How a seat gives a part to a further one, and takes in another's parts and log.
+// How a seat gives a part to another one, and takes in another's parts and log.
 struct Parted;
 
 impl Split<Log> for Parted {
@@ -75,12 +75,12 @@ fn found_at(bits: u64, place: u32) -> Found
     }
 }
 
-/// A mark for each frame. It is shared by a `&`, and each thread steps with a [`Seat`] of its own.
+/// A mark for each frame. Threads share it by a `&`, and each thread steps with a [`Seat`] of its own.
 ///
-/// What the seats were told always fits the marks: of each frame, the sets that found it clear are as
-/// many as the harvests that took its mark, and one more where it is marked; and no set found it marked
-/// before one had marked it. This holds between any two steps, and [`Marks::close`] says it of the
-/// totals of all logs, not of their order.
+/// What the seats found always fits the marks. For each frame, the number of sets that found it clear is
+/// the number of harvests that cleared its mark, plus one if it is marked. No set found it marked before
+/// one had marked it. This holds between any two steps. [`Marks::close`] states it for the totals of all
+/// logs, not for their order.
 #[derive(Drop)]
 pub struct Marks {
     frames: u32,
@@ -99,14 +99,14 @@ impl Model for Marks {
 }
 
 impl Marks {
-    /// Marks of so many frames, numbered from 0 on, none of them marked; and the first seat, with all 2^32
-    /// parts. `AllocError` where there is no memory for a bit a frame.
+    /// Marks of this many frames, numbered from 0 on, none of them marked; and the first seat, with all
+    /// 2^32 parts. `AllocError` if there is no memory for a bit for each frame.
     pub fn open(alloc: Global, frames: u32) -> Result<(Marks, Seat), AllocError>
         ensures frames { IfOk result (λ r. r.0.frames ≡ frames) }
         ensures table { IfOk result (λ r. r.1.table ≡ r.0.table) }
         ensures log { IfOk result (λ r. r.1.log ≡ fresh (2 ^ 32)) }
     {
-        // One word at least, since a seat is cut and joined at a look at word 0.
+        // There is at least one word, since a seat is cut and joined during a look at word 0.
         let count = frames as usize / 64 + 1;
         let words = vec![in alloc; 0u64; count]?;
         let (table, inner) = Table::of_words(alloc, words.as_slice(), &(count as u64))?;
@@ -117,14 +117,14 @@ impl Marks {
         Ok((Marks { frames, table }, seat))
     }
 
-    /// How many frames there are. They have as many words as `frames.div_ceil(64)`.
+    /// How many frames there are. Their marks take `frames.div_ceil(64)` words.
     pub fn frames(&self) -> u32
         ensures { result ≡ self.now.frames }
     {
         self.frames
     }
 
-    /// A further seat, with an empty log and a part of the given one. It takes no memory.
+    /// Another seat, with an empty log and a part of the given one. Allocates no memory.
     pub fn seat(&self, seat: &mut Seat) -> Seat
         requires parts { 2 ≤ seat.old.log.parts }
         requires of_these { seat.old.table ≡ self.now.table }
@@ -137,15 +137,15 @@ impl Marks {
         Seat { parts: 1, inner }
     }
 
-    /// Marks a frame, and says whether it was marked before (kernel: `pte_mkyoung`, or the processor's
-    /// set of the accessed bit).
+    /// Marks a frame, and says whether it was marked before (kernel: `pte_mkyoung`, or the processor's set
+    /// of the accessed bit).
     pub fn set(&self, seat: &mut Seat, frame: u32) -> Found
         requires in_range { frame < self.now.frames }
         requires of_these { seat.old.table ≡ self.now.table }
         ensures log { seat.new.log ≡ after_set frame result seat.old.log }
         ensures table { seat.new.table ≡ seat.old.table }
 
-        // Whoever has all parts knows what is marked.
+        // The owner of all parts knows what is marked.
         ensures alone { seat.old.log.parts ≡ 2 ^ 32 → result ≡ found_of (pending frame seat.old.log) }
     {
         let steps = &self.table.shared;
@@ -154,30 +154,30 @@ impl Marks {
         found_at(bits, frame % 64)
     }
 
-    /// The marks of 64 frames, which are clear from then on: bit b is that of frame `64 * word + b`
-    /// (kernel: `ptep_test_and_clear_young`).
+    /// Clears the marks of 64 frames and returns them: bit b belongs to frame `64 * word + b` (kernel:
+    /// `ptep_test_and_clear_young`).
     pub fn harvest(&self, seat: &mut Seat, word: u32) -> u64
         requires in_range { 64 * word < self.now.frames }
         requires of_these { seat.old.table ≡ self.now.table }
         ensures log { seat.new.log ≡ after_harvest word result seat.old.log }
         ensures table { seat.new.table ≡ seat.old.table }
 
-        // Whoever has all parts knows what is marked.
+        // The owner of all parts knows what is marked.
         ensures alone { seat.old.log.parts ≡ 2 ^ 32 → (f : ℕ) → f / 64 ≡ word → bit_at result (f % 64) ≡ pending f seat.old.log }
     {
         let steps = &self.table.shared;
         steps.swap::<Harvesting>(&mut seat.inner, word as usize, 0)
     }
 
-    /// The marks of 64 frames as they were at some moment of the call: bit b is that of frame
-    /// `64 * word + b`. A hint, of which no contract says anything.
+    /// The marks of 64 frames as they were at some moment of the call: bit b belongs to frame
+    /// `64 * word + b`. This is a hint, and no contract says anything about it.
     pub fn load(&self, word: u32) -> u64
         requires in_range { 64 * word < self.now.frames }
     {
         self.table.shared.peek(word as usize)
     }
 
-    /// The end of the marks, for whoever has seats with all parts: the marks that are left.
+    /// Closes the marks, for an owner of seats with all parts. Returns the marks that are left.
     pub fn close(self, seats: Vec<Seat>) -> Words
         requires parts { sum_by (λ s. s.log.parts) seats.items ≡ 2 ^ 32 }
         requires of_these { All (λ s. s.table ≡ self.table) seats.items }
@@ -194,7 +194,7 @@ impl Marks {
         self.end(all)
     }
 
-    // A seat takes in the log and the parts of another.
+    // Moves the log and the parts of another seat into this one.
     fn join(&self, all: &mut Seat, other: Seat)
         requires parts { all.old.log.parts + other.log.parts ≤ 2 ^ 32 }
         requires of_these { (all.old.table ≡ self.now.table) × (other.table ≡ self.now.table) }
@@ -206,7 +206,7 @@ impl Marks {
         all.parts += parts;
     }
 
-    // The end, with all parts in one seat.
+    // Closes the marks, with all parts in one seat.
     fn end(self, all: Seat) -> Words
         requires parts { all.log.parts ≡ 2 ^ 32 }
         requires of_these { all.table ≡ self.table }

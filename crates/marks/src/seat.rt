@@ -1,13 +1,13 @@
-//! A thread's leave to set and to harvest.
+//! A thread's permission to set and to harvest.
 
 ghost use Rattle.std.specs.Prelude.{◌≡◌};
 
 use crate::log::Log;
 use std::marker::Model;
 
-/// A thread's leave to set and to harvest, with no lifetime. It has a log of what was done with it, which
-/// contracts alone see, and a number of parts. The seats of one [`Marks`](crate::Marks) have 2^32 parts together,
-/// fewer where one was let go: whoever has all of them knows that nobody else can step.
+/// A thread's permission to set and to harvest, with no lifetime. It has a log of its sets and harvests, which
+/// only contracts see, and a number of parts. The seats of one [`Marks`](crate::Marks) have 2^32 parts together,
+/// or fewer if a seat was dropped. An owner of all parts knows that no other thread can step.
 #[derive(Drop)]
 pub struct Seat {
     pub(crate) parts: u64,
@@ -26,7 +26,7 @@ impl Model for Seat {
 }
 
 impl Seat {
-    /// How many parts it has, from 1 to 2^32. A seat with 2 or more can give one to a further seat.
+    /// How many parts it has, from 1 to 2^32. A seat with 2 or more can give one to another seat.
     pub fn parts(&self) -> u64
         ensures { result ≡ self.now.log.parts }
     {

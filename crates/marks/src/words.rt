@@ -23,7 +23,7 @@ impl Model for Words {
 }
 
 impl Words {
-    /// The marks of 64 frames: bit b is that of frame `64 * word + b`.
+    /// The marks of 64 frames: bit b belongs to frame `64 * word + b`.
     pub fn get(&self, word: u32) -> u64
         requires in_range { word < length self.now }
         ensures { result ≡ slice_index self.now word }

@@ -1,4 +1,4 @@
-//! One end of a link as it is stored.
+//! One end of a link, as it is stored.
 
 ghost use Rattle.std.specs.Prelude.{◌≡◌};
 ghost use Rattle.rings.specs.RingNodes.{IsCounted};
@@ -7,7 +7,7 @@ use crate::ring_node::{ListId, RingNode};
 use machine::id::PageId;
 use std::marker::Model;
 
-/// The numbers below this are pages, and the others heads.
+/// Numbers below this are pages, and the others are heads.
 pub const FIRST_HEAD: u32 = 1 << 31;
 
 /// A node in 4 bytes; a [`RingNode`] takes 8.
@@ -24,7 +24,7 @@ impl Model for End {
 }
 
 impl End {
-    /// The node is stored.
+    /// Stores the node.
     pub fn new(node: RingNode) -> End
         requires { IsCounted node }
         ensures { result ≡ node }

@@ -1,4 +1,4 @@
-//! The links of all rings, with the three changes that keep them rings (kernel: `__list_add`,
+//! The links of all rings, and the three changes that keep them rings (kernel: `__list_add`,
 //! `__list_del`, `__list_splice`).
 
 ghost use Rattle.std.specs.Prelude.{◌≡◌, ◌≢◌, ◌<◌, Some, None, option_copied, IsSome, length};
@@ -11,7 +11,7 @@ use machine::id::PageId;
 /// The links of all rings.
 #[derive(Drop)]
 pub struct Links {
-    /// By page: its link, or `None` where it is in no list.
+    /// By page: its link, or `None` if it is in no list.
     pub pages: Vec<Option<Link>>,
     /// By list: the link of its head.
     pub heads: Vec<Link>,
@@ -70,7 +70,7 @@ impl Links {
         self.write(node, Link::new(to, next));
     }
 
-    // From now on b comes behind a.
+    // Makes b the next node after a.
     fn join(&mut self, a: RingNode, b: RingNode)
         requires a_there { IsSome (link_at self.old a) }
         requires b_there { IsSome (link_at self.old b) }
@@ -89,7 +89,7 @@ impl Links {
         self.pages[page.0 as usize] = link;
     }
 
-    /// A page that is in no ring comes in front of the node (kernel: `list_add_tail`).
+    /// Inserts a page that is in no ring before the node (kernel: `list_add_tail`).
     pub fn add_before(&mut self, page: PageId, node: RingNode)
         requires within { page.0 < length self.old.pages.items }
         requires page_counted { IsCounted (RingNode.Page page) }
@@ -105,7 +105,7 @@ impl Links {
         self.set_prev(node, added);
     }
 
-    /// The page leaves its ring (kernel: `list_del`).
+    /// Removes the page from its ring (kernel: `list_del`).
     pub fn remove(&mut self, page: PageId)
         requires prev { (a : RingNode) × (a ≢ RingNode.Page page) × IsJoined self.old a (RingNode.Page page) }
         requires next { (b : RingNode) × (b ≢ RingNode.Page page) × IsJoined self.old (RingNode.Page page) b }
@@ -117,7 +117,7 @@ impl Links {
         self.put(page, None);
     }
 
-    /// All that is in a ring that is not empty comes between two nodes that are joined (kernel:
+    /// Moves all pages of a ring that is not empty between two joined nodes (kernel:
     /// `__list_splice`).
     pub fn splice(&mut self, source: RingNode, before: RingNode, after: RingNode)
         requires source_counted { IsCounted source }

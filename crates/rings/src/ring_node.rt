@@ -1,4 +1,4 @@
-//! What stands in a ring, and the link that it has there.
+//! The nodes of a ring, and their links.
 
 ghost use Rattle.std.specs.Prelude.{◌≡◌, option_map};
 ghost use Rattle.rings.specs.RingNodes.{page_of, IsCounted};
@@ -12,8 +12,8 @@ use std::mem::size_of;
 #[derive(Clone, Copy, PartialEq, Eq)]
 pub struct ListId(pub u32);
 
-/// What stands in a ring: a page, or the head of a list (kernel: a `struct list_head *`, which is
-/// `lru` of a folio or a list's own head).
+/// A node of a ring: a page, or the head of a list (kernel: a `struct list_head *`, which is `lru`
+/// of a folio or a list's own head).
 #[derive(Clone, Copy)]
 pub enum RingNode {
     Page(PageId),
@@ -32,15 +32,15 @@ impl RingNode {
     }
 }
 
-/// The neighbours of a node in its ring (kernel: what a `struct list_head` has), in 8 bytes. It is
-/// neither copied nor made outside this crate, so a link that is lent is the stored one.
+/// The neighbours of a node in its ring (kernel: what a `struct list_head` has), in 8 bytes. No
+/// code outside this crate copies or makes a link, so a link that is lent is the stored one.
 #[derive(Drop)]
 pub struct Link {
     prev: End,
     next: End,
 }
 
-// The sizes that the first lines of the crate tell.
+// The sizes that the first lines of the crate state.
 const _: () = prove!(size_of::<RingNode>() == 8);
 
 const _: () = prove!(size_of::<Link>() == 8);
@@ -68,8 +68,8 @@ impl Link {
         }
     }
 
-    /// What comes just before the node. Before a head it is the last page of the list, or the head
-    /// itself where there is none.
+    /// The node just before this one. Before a head it is the last page of the list, or the head
+    /// itself if the list is empty.
     pub fn prev(&self) -> RingNode
         ensures node { result ≡ self.now.prev }
         ensures counted { IsCounted result }
@@ -77,8 +77,8 @@ impl Link {
         self.prev.node()
     }
 
-    /// What comes next behind the node. Behind a head it is the first page of the list, or the head
-    /// itself where there is none.
+    /// The node just after this one. After a head it is the first page of the list, or the head
+    /// itself if the list is empty.
     pub fn next(&self) -> RingNode
         ensures node { result ≡ self.now.next }
         ensures counted { IsCounted result }

@@ -12,10 +12,11 @@ use machine::id::PageId;
 use std::alloc::{AllocError, Global};
 use std::marker::Model;
 
-/// Lists of pages. A page is in one list at most, and once (kernel: lists of folios by their `lru`).
+/// Lists of pages. A page is in at most one list, and only once (kernel: lists of folios by their
+/// `lru`).
 ///
-/// A contract sees each list as the numbers of its pages in order. No call walks a list, and none but
-/// [`Rings::open`] and [`Rings::reserve`] takes memory.
+/// A contract sees each list as the numbers of its pages in order. No call walks a list. Only
+/// [`Rings::open`] and [`Rings::reserve`] allocate memory.
 #[derive(Drop)]
 pub struct Rings {
     links: Links,
@@ -49,8 +50,8 @@ fn no_links(alloc: Global, numbers: usize) -> Result<Vec<Option<Link>>, AllocErr
 }
 
 impl Rings {
-    /// No list, and links for so many page numbers. `AllocError` where there is no memory for them, or
-    /// where they are 2^31 or more.
+    /// No list, and links for this many page numbers. `AllocError` if there is no memory for them, or
+    /// if there are 2^31 or more.
     pub fn open(alloc: Global, numbers: u32) -> Result<Self, AllocError>
         ensures lists { IfOk result (λ r. r.lists ≡ []) }
         ensures numbers { IfOk result (λ r. r.numbers ≡ numbers) }
@@ -66,8 +67,8 @@ impl Rings {
         })
     }
 
-    /// Asks for the memory of so many lists more. `AllocError` where there is none; the lists are the
-    /// same either way.
+    /// Reserves the memory for this many further lists. `AllocError` if memory runs out. The lists do
+    /// not change in either case.
     pub fn reserve(&mut self, lists: u32) -> Result<(), AllocError>
         ensures room { OnOk result (lists ≤ self.new.room) }
         ensures others { self.new ≡ record self.old { room = self.new.room } }
@@ -77,8 +78,7 @@ impl Rings {
         self.links.heads.reserve(lists as usize)
     }
 
-    /// So many lists more, which are empty (kernel: `INIT_LIST_HEAD`). Their memory was asked for by
-    /// [`Rings::reserve`].
+    /// Adds this many empty lists (kernel: `INIT_LIST_HEAD`). [`Rings::reserve`] reserved their memory.
     pub fn add(&mut self, lists: u32)
         requires room { lists ≤ self.old.room }
         requires fits { length self.old.lists + lists < 2 ^ 31 }
@@ -117,8 +117,8 @@ impl Rings {
         self.links.pages.len() as u32
     }
 
-    /// The stored link of a page, or of the head of a list, which is lent. `None` for a page that is in
-    /// no list, and for a list that is not there.
+    /// Lends the stored link of a page, or of the head of a list. `None` for a page that is in no list,
+    /// and for a list that does not exist.
     pub fn link(&self, node: RingNode) -> Option<&Link>
         ensures there { is_some result ≡ is_there self.now.lists node }
         ensures link { IfSome (option_copied result) (λ link. IsLinkOf self.now.lists node link) }
@@ -156,8 +156,7 @@ impl Rings {
         self.front(list).is_none()
     }
 
-    /// The page that comes next in the list of this one, if there is one (kernel:
-    /// `list_next_entry`).
+    /// The next page in the list of this one, if there is one (kernel: `list_next_entry`).
     pub fn after(&self, page: PageId) -> Option<PageId>
         requires { is_listed self.now.lists page.0 ≡ true }
         ensures { IsAfter self.now.lists page.0 (option_map (λ page. page.0) result) }
@@ -165,8 +164,7 @@ impl Rings {
         self.links.link(RingNode::Page(page)).next().page()
     }
 
-    /// The page that comes just before this one in its list, if there is one (kernel:
-    /// `list_prev_entry`).
+    /// The page just before this one in its list, if there is one (kernel: `list_prev_entry`).
     pub fn before(&self, page: PageId) -> Option<PageId>
         requires { is_listed self.now.lists page.0 ≡ true }
         ensures { IsBefore self.now.lists page.0 (option_map (λ page. page.0) result) }
@@ -174,8 +172,8 @@ impl Rings {
         self.links.link(RingNode::Page(page)).prev().page()
     }
 
-    /// A page that is in no list comes to the end of this one (kernel: `list_add_tail`). The links of
-    /// three nodes change at most: the page, the head, and the page that was last.
+    /// Adds a page that is in no list to the end of this one (kernel: `list_add_tail`). At most three
+    /// nodes' links change: the page, the head, and the page that was last.
     pub fn push_back(&mut self, list: ListId, page: PageId)
         requires list { list.0 < length self.old.lists }
         requires page { page.0 < self.old.numbers }
@@ -187,8 +185,8 @@ impl Rings {
         self.links.add_before(page, RingNode::Head(list));
     }
 
-    /// The page leaves the list that it is in, whichever that is (kernel: `list_del_init`). The links
-    /// of three nodes change at most: the page and its two neighbours.
+    /// Removes the page from its list (kernel: `list_del_init`). At most three nodes' links change: the
+    /// page and its two neighbours.
     pub fn remove(&mut self, page: PageId)
         requires { is_listed self.old.lists page.0 ≡ true }
         ensures lists { self.new.lists ≡ map (without page.0) self.old.lists }
@@ -199,10 +197,10 @@ impl Rings {
         self.links.remove(page);
     }
 
-    /// All pages of one list come, in their order, in front of those of another, and the list that
-    /// they were in is empty (kernel: `list_splice_init`). The links of five nodes change at most: the
-    /// two heads, the first and the last of the pages that come, and the page in front of which they
-    /// come.
+    /// Moves all pages of one list, in their order, before those of another (kernel:
+    /// `list_splice_init`). The list that they came from is empty then. At most five nodes' links
+    /// change: the two heads, the first and the last of the moved pages, and the page that follows
+    /// them.
     pub fn splice_front(&mut self, source: ListId, target: ListId)
         requires source { source.0 < length self.old.lists }
         requires target { target.0 < length self.old.lists }
@@ -223,9 +221,10 @@ impl Rings {
         self.splice(source, target, RingNode::Head(target), first);
     }
 
-    /// All pages of one list come, in their order, behind those of another, and the list that they
-    /// were in is empty (kernel: `list_splice_tail_init`). The links of five nodes change at most: the
-    /// two heads, the first and the last of the pages that come, and the page behind which they come.
+    /// Moves all pages of one list, in their order, after those of another (kernel:
+    /// `list_splice_tail_init`). The list that they came from is empty then. At most five nodes' links
+    /// change: the two heads, the first and the last of the moved pages, and the page that precedes
+    /// them.
     pub fn splice_back(&mut self, source: ListId, target: ListId)
         requires source { source.0 < length self.old.lists }
         requires target { target.0 < length self.old.lists }
@@ -246,7 +245,7 @@ impl Rings {
         self.splice(source, target, last, RingNode::Head(target));
     }
 
-    // All pages of a list that has some come, in their order, between two neighbours in another.
+    // Moves all pages of a list that is not empty, in their order, between two neighbours in another.
     fn splice(&mut self, source: ListId, target: ListId, before: RingNode, after: RingNode)
         requires source { source.0 < length self.old.lists }
         requires target { target.0 < length self.old.lists }
@@ -265,8 +264,9 @@ impl Rings {
         self.links.splice(RingNode::Head(source), before, after);
     }
 
-    /// Nothing is done: what always holds. No page is in two lists, or twice in one; the number of each
-    /// that is in one is among the page numbers; and a number of 31 bits counts the lists.
+    /// Does nothing. The contract states what always holds: no page is in two lists, or twice in one.
+    /// The number of each page in a list is among the page numbers. A number of 31 bits counts the
+    /// lists.
     pub fn lists_are_apart(&self)
         ensures apart { AreApart self.now.lists }
         ensures within { (p : ℕ) → is_listed self.now.lists p ≡ true → p < self.now.numbers }

@@ -1,9 +1,9 @@
-//! Tasks, and the pages that their virtual pages show.
+//! Tasks, and the pages that their virtual pages map.
 //!
-//! A task is known by its number, also after it ended, so that no number is given twice. Each live
-//! task has a page table, whose memory it takes as it starts and gives back as it ends. How many
-//! tasks live, in all and of each group, and how many virtual pages show a page, is kept beside, so
-//! that none of these is a walk over the tasks.
+//! A task is known by its number, also after it ended, so no number is used twice. Each live task has a
+//! page table. Its memory is allocated when the task starts, and freed when it ends. The crate counts
+//! the live tasks, in all and by group, and the virtual pages that map each page. Reading one of these
+//! counts needs no walk over the tasks.
 #![tactic(auto)]
 
 ghost use Rattle.std.specs.Prelude.{◌≡◌, ◌≢◌, ℕ, ◌+◌, ◌<◌, ◌≤◌, [], true, false, Some, None, IfOk, OnOk, OnErr, length, max, vec_capacity, vec_len, option_map};
@@ -22,18 +22,18 @@ use machine::refusal::Refusal;
 use std::alloc::{AllocError, Global};
 use std::marker::Model;
 
-/// The tasks by their numbers, and what the virtual pages of the live ones show (kernel: each task's
+/// The tasks by their numbers, and what the virtual pages of the live ones map (kernel: each task's
 /// `mm_struct`, and `_mapcount` of a `struct page`).
 #[derive(Drop)]
 pub struct Spaces {
     tasks: Vec<Option<Task>>,
-    /// How many tasks live.
+    /// How many tasks are live.
     live: usize,
-    /// By group how many tasks of it live (kernel: `nr_tasks` of a `struct css_set`).
+    /// By group: how many of its tasks are live (kernel: `nr_tasks` of a `struct css_set`).
     by_group: Vec<u32>,
-    /// By task number the page table.
+    /// By task number: the page table.
     tables: Vec<PageTable>,
-    /// By page number how many virtual pages show the page.
+    /// By page number: how many virtual pages map the page.
     mappers: Vec<u32>,
 }
 
@@ -50,8 +50,8 @@ impl Model for Spaces {
 }
 
 impl Spaces {
-    /// No task, the root as the only group, and so many page numbers, of which none is shown.
-    /// `AllocError` where there is no memory for their counts.
+    /// No task, the root as the only group, and this many page numbers. No page is mapped. `AllocError`
+    /// if there is no memory for the counts.
     pub fn new(alloc: Global, numbers: u32) -> Result<Self, AllocError>
         ensures tasks { IfOk result (λ s. s.tasks ≡ []) }
         ensures page_tables { IfOk result (λ s. s.page_tables ≡ []) }
@@ -71,7 +71,7 @@ impl Spaces {
         })
     }
 
-    /// The task of this number, if there ever was one.
+    /// The task with this number, if there ever was one.
     pub fn task(&self, task: TaskId) -> Option<Task>
         ensures { result ≡ task_at self.now.tasks task.0 }
     {
@@ -82,7 +82,7 @@ impl Spaces {
     }
 
     /// Why no new task can have this number: `Invalid` outside 1 to 65,535, `NumberUsed` for a number
-    /// that was given before, `NoSpace` where 1,024 tasks live.
+    /// that a task had before, `NoSpace` if 1,024 tasks are live.
     pub fn number_refusal(&self, task: TaskId) -> Option<Refusal>
         ensures { result ≡ number_refusal self.now.tasks task.0 }
     {
@@ -98,7 +98,7 @@ impl Spaces {
         None
     }
 
-    /// Whether a live task is of the group (kernel: `cgroup_has_tasks`). A group that is not there has
+    /// Whether the group has a live task (kernel: `cgroup_has_tasks`). A group that does not exist has
     /// none.
     pub fn has_tasks(&self, group: GroupId) -> bool
         ensures { result ≡ has_tasks self.now.tasks group.0 }
@@ -109,8 +109,8 @@ impl Spaces {
         }
     }
 
-    /// Asks for the memory of one group more. `AllocError` where there is none; the tasks and what they
-    /// show are the same either way.
+    /// Reserves the memory for another group. `AllocError` if memory runs out. The tasks and their
+    /// mappings do not change in either case.
     pub fn reserve_group(&mut self) -> Result<(), AllocError>
         ensures room { OnOk result (0 < self.new.room) }
         ensures same { self.new ≡ record self.old { room = self.new.room } }
@@ -118,7 +118,7 @@ impl Spaces {
         self.by_group.reserve(1)
     }
 
-    /// A group more, with no task. Its memory was asked for by [`Spaces::reserve_group`].
+    /// Adds a group without tasks. [`Spaces::reserve_group`] reserved its memory.
     pub fn add_group(&mut self)
         requires { 0 < self.old.room }
         ensures { self.new ≡ record self.old { groups = self.old.groups + 1; room = self.new.room } }
@@ -126,7 +126,7 @@ impl Spaces {
         self.by_group.push_reserved(0);
     }
 
-    /// How many task numbers there are to go over: every task's number is below.
+    /// A bound for loops over the tasks: every task's number is below it.
     pub fn slots(&self) -> usize
         ensures slots { result ≡ length self.now.tasks }
         ensures within { result ≤ 65536 }
@@ -134,8 +134,8 @@ impl Spaces {
         self.tasks.len()
     }
 
-    /// Starts a task of the group, with a page table of its own (kernel: `copy_process`, `mm_alloc`).
-    /// Where memory is wanting, nothing changes.
+    /// Starts a task of the group, with a page table of its own (kernel: `copy_process`, `mm_alloc`). If
+    /// memory runs out, nothing changes.
     pub fn spawn(&mut self, task: TaskId, group: GroupId) -> Result<(), AllocError>
         requires number { number_refusal self.old.tasks task.0 ≡ None }
         requires group { group.0 < self.old.groups }
@@ -160,8 +160,8 @@ impl Spaces {
         Ok(())
     }
 
-    /// Starts a task in the group of a live one, with a page table that shows what the other's shows
-    /// (kernel: `copy_process`, `dup_mmap`). Where memory is wanting, nothing changes.
+    /// Starts a task in the group of a live one, with a page table that maps the same pages (kernel:
+    /// `copy_process`, `dup_mmap`). If memory runs out, nothing changes.
     pub fn fork(&mut self, parent: TaskId, child: TaskId) -> Result<(), AllocError>
         requires alive { lives self.old.tasks parent.0 ≡ true }
         requires number { number_refusal self.old.tasks child.0 ≡ None }
@@ -183,7 +183,7 @@ impl Spaces {
         Ok(())
     }
 
-    /// A live task is of another group from now on (kernel: `cgroup_attach_task`).
+    /// Moves a live task to another group (kernel: `cgroup_attach_task`).
     pub fn attach(&mut self, task: TaskId, group: GroupId)
         requires there { lives self.old.tasks task.0 ≡ true }
         requires group { group.0 < self.old.groups }
@@ -200,7 +200,7 @@ impl Spaces {
         self.by_group[group.0 as usize] += 1;
     }
 
-    /// The page that a virtual page of the task shows (kernel: a walk of the page table).
+    /// The page that a virtual page of the task maps (kernel: a walk of the page table).
     pub fn page(&self, task: TaskId, at: u32) -> Option<PageId>
         ensures { option_map (λ page. page.0) result ≡ mapped_at self.now.page_tables task.0 at }
     {
@@ -210,7 +210,7 @@ impl Spaces {
         }
     }
 
-    /// How many virtual pages show the page (kernel: `folio_mapcount`).
+    /// How many virtual pages map the page (kernel: `folio_mapcount`).
     pub fn mappers(&self, page: PageId) -> u32
         ensures { result ≡ mappers self.now.page_tables page.0 }
     {
@@ -220,7 +220,7 @@ impl Spaces {
         }
     }
 
-    /// How many virtual pages of the task show a page, in a frame or in swap (kernel: what `oom_badness`
+    /// How many virtual pages of the task map a page, in a frame or in swap (kernel: what `oom_badness`
     /// counts, in pages).
     pub fn size(&self, task: TaskId) -> usize
         ensures { result ≡ size_of self.now.page_tables task.0 }
@@ -231,8 +231,8 @@ impl Spaces {
         }
     }
 
-    /// The virtual page of a live task, which shows nothing, shows the page from now on (kernel:
-    /// `set_pte_at`, and `folio_add_anon_rmap_ptes`).
+    /// Maps the page at a virtual page of a live task that maps nothing (kernel: `set_pte_at`, and
+    /// `folio_add_anon_rmap_ptes`).
     pub fn map(&mut self, task: TaskId, at: u32, page: PageId)
         requires alive { lives self.old.tasks task.0 ≡ true }
         requires within { at < task_pages }
@@ -248,8 +248,8 @@ impl Spaces {
         self.mappers[page.0 as usize] += 1;
     }
 
-    /// The virtual page of the task shows nothing from now on. It gives the page that it showed, if it
-    /// showed one (kernel: `ptep_get_and_clear`, and `folio_remove_rmap_ptes`).
+    /// Unmaps a virtual page of the task. Returns the page that it mapped, if any (kernel:
+    /// `ptep_get_and_clear`, and `folio_remove_rmap_ptes`).
     pub fn unmap(&mut self, task: TaskId, at: u32) -> Option<PageId>
         ensures page { option_map (λ page. page.0) result ≡ mapped_at self.old.page_tables task.0 at }
         ensures shown { Shows self.old.page_tables self.new.page_tables task.0 at None }
@@ -264,8 +264,8 @@ impl Spaces {
         Some(page)
     }
 
-    /// The live task ends so, and gives its page table back (kernel: `do_exit`, `mmput`). Its pages
-    /// were unmapped before.
+    /// Ends the live task in this way, and frees its page table (kernel: `do_exit`, `mmput`). The caller
+    /// has unmapped its pages.
     pub fn exit(&mut self, task: TaskId, life: Life)
         requires there { lives self.old.tasks task.0 ≡ true }
         requires ended { is_live_life life ≡ false }
@@ -284,9 +284,9 @@ impl Spaces {
         self.by_group[group.0 as usize] -= 1;
     }
 
-    /// Nothing is done: what always holds. A virtual page that shows a page is one of a live task,
-    /// and its number is below 1,024; the number of the page is one that there is, and so is that of a
-    /// live task's group.
+    /// Does nothing. The contract states what always holds. A virtual page that maps a page belongs to a
+    /// live task, and its number is below 1,024. The page has a number that exists, and so has a live
+    /// task's group.
     pub fn owners(&self)
         ensures alive { (t v p : ℕ) → mapped_at self.now.page_tables t v ≡ Some p → lives self.now.tasks t ≡ true }
         ensures within { (t v p : ℕ) → mapped_at self.now.page_tables t v ≡ Some p → v < task_pages }
@@ -297,7 +297,7 @@ impl Spaces {
     }
 }
 
-/// The group of a task that is there.
+/// The group of an existing task.
 fn group_of(slot: Option<Task>) -> GroupId
     ensures { result.0 ≡ group_of slot }
 {
@@ -307,7 +307,7 @@ fn group_of(slot: Option<Task>) -> GroupId
     }
 }
 
-/// Asks for the memory of what stands at the numbers up to this one.
+/// Reserves the memory for the items at the numbers up to this one.
 fn reserve_number<T>(items: &mut Vec<T>, index: usize) -> Result<(), AllocError>
     requires { index ≤ 65535 }
     ensures room { OnOk result (index < vec_capacity items.new) }
@@ -317,7 +317,7 @@ fn reserve_number<T>(items: &mut Vec<T>, index: usize) -> Result<(), AllocError>
     items.reserve((index + 1).saturating_sub(items.len()))
 }
 
-/// The task of the number, with no task at the numbers before that are new.
+/// Stores the task at its number. Any new numbers before it get no task.
 fn put_task(tasks: &mut Vec<Option<Task>>, index: usize, task: Task)
     requires { index < vec_capacity tasks.old }
     ensures put { Changes tasks.old.items tasks.new.items index (Some task) }
@@ -329,7 +329,7 @@ fn put_task(tasks: &mut Vec<Option<Task>>, index: usize, task: Task)
     tasks[index] = Some(task);
 }
 
-/// The page table of the number, with tables without a place at the numbers before that are new.
+/// Stores the page table at its number. Any new numbers before it get tables without a place.
 fn put_table(tables: &mut Vec<PageTable>, index: usize, table: PageTable, alloc: Global)
     requires { index < vec_capacity tables.old }
     ensures put { table_of tables.new.items index ≡ table }
@@ -342,7 +342,7 @@ fn put_table(tables: &mut Vec<PageTable>, index: usize, table: PageTable, alloc:
     tables[index] = table;
 }
 
-/// The task that is there ends so.
+/// Ends an existing task in this way.
 fn end_task(tasks: &mut Vec<Option<Task>>, task: TaskId, life: Life)
     requires { lives tasks.old.items task.0 ≡ true }
     ensures ends { SetsTask tasks.old.items task.0 (group_of_task tasks.old.items task.0) life tasks.new.items }

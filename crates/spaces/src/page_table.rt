@@ -9,13 +9,14 @@ use machine::limit::TASK_PAGES;
 use std::alloc::{AllocError, Global};
 use std::marker::Model;
 
-/// For each virtual page of a task the page that it shows (kernel: the page table of a `struct
-/// mm_struct`). A number without a live task has a table without a place, which takes no memory.
+/// For each virtual page of a task, the page that it maps (kernel: the page table of a
+/// `struct mm_struct`). A number without a live task has a table without a place, which takes no
+/// memory.
 #[derive(Drop)]
 pub(crate) struct PageTable {
     places: Vec<Option<PageId>>,
-    /// How many of the places show a page (kernel: the counter `MM_ANONPAGES` of a `struct
-    /// mm_struct`, with the pages in swap).
+    /// How many of the places map a page (kernel: the counter `MM_ANONPAGES` of a
+    /// `struct mm_struct`, with the pages in swap).
     shown: u32,
 }
 
@@ -43,7 +44,7 @@ impl PageTable {
         }
     }
 
-    /// The table of a new task: no virtual page shows a page.
+    /// The table of a new task: no virtual page maps a page.
     pub(crate) fn new(alloc: Global) -> Result<PageTable, AllocError>
         ensures { IfOk result (λ table. table ≡ replicate task_pages None) }
     {
@@ -52,7 +53,7 @@ impl PageTable {
         Ok(PageTable { places, shown: 0 })
     }
 
-    /// The page that a virtual page shows.
+    /// The page that a virtual page maps.
     pub(crate) fn page(&self, place: u32) -> Option<PageId>
         ensures { result ≡ at self.now place }
     {
@@ -62,14 +63,14 @@ impl PageTable {
         }
     }
 
-    /// How many virtual pages show a page.
+    /// How many virtual pages map a page.
     pub(crate) fn size(&self) -> u32
         ensures { result ≡ count_there (λ page. true) self.now }
     {
         self.shown
     }
 
-    /// The virtual page, which shows nothing, shows the page from now on.
+    /// Maps the page at a virtual page that maps nothing.
     pub(crate) fn map(&mut self, place: u32, page: PageId)
         requires within { place < length self.old }
         requires unmapped { at self.old place ≡ None }
@@ -79,7 +80,7 @@ impl PageTable {
         self.shown += 1;
     }
 
-    /// The virtual page, which shows a page, shows nothing from now on.
+    /// Unmaps a virtual page that maps a page.
     pub(crate) fn unmap(&mut self, place: u32)
         requires { IsSome (at self.old place) }
         ensures { self.new ≡ slice_set self.old place None }

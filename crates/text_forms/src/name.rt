@@ -36,8 +36,8 @@ fn all_names(names: &str) -> bool
     names.split('/').all(|name| is_name(name))
 }
 
-/// Whether a word is a group's path: `/` for the root, or names from the root down with a slash
-/// before each.
+/// Whether a word is a group's path: `/` for the root, or the names from the root down, each after
+/// a slash.
 pub fn is_path(word: &str) -> bool
     ensures { result ≡ is_path word.now }
 {

@@ -11,21 +11,21 @@ fn all_digits(word: &str) -> bool
     word.bytes().all(|byte| byte.is_ascii_digit())
 }
 
-/// Whether a word is decimal digits alone, one or more.
+/// Whether a word has at least one character, and only decimal digits.
 pub fn is_digits(word: &str) -> bool
     ensures { result ≡ is_numeral word.now }
 {
     !word.is_empty() && all_digits(word)
 }
 
-/// A sign is no digit, and the one that `parse` takes before an unsigned number is this.
+/// A sign is not a digit. `parse` accepts this one before an unsigned number.
 fn begins_with_plus(word: &str) -> bool
     ensures { result ≡ (slice_index word.now 0 == 43) }
 {
     word.as_bytes().first() == Some(&b'+')
 }
 
-/// The number that a word of digits alone writes, leading zeros and all, where it is below 2^32.
+/// The number that a word of digits writes, if it is below 2^32. Leading zeros are allowed.
 pub fn number_of(word: &str) -> Option<u32>
     ensures { result ≡ number_below (2 ^ 32) word.now }
 {
@@ -35,7 +35,7 @@ pub fn number_of(word: &str) -> Option<u32>
     word.parse::<u32>().ok()
 }
 
-/// The number that a word of digits alone writes, leading zeros and all, where it is below 2^64.
+/// The number that a word of digits writes, if it is below 2^64. Leading zeros are allowed.
 pub fn long_number_of(word: &str) -> Option<u64>
     ensures { result ≡ number_below (2 ^ 64) word.now }
 {
