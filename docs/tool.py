@@ -5,7 +5,7 @@
     docs/tool.py laws             each law, in a sentence
     docs/tool.py map [CRATE]      each crate: what it does, what it uses, its source files and its lemmas
     docs/tool.py crates           the picture of the crates, which is docs/crates.svg
-    docs/tool.py phrases [PAGE]   the sentences that the list of phrases finds, with what to write instead
+    docs/tool.py phrases [PAGE ..]  the sentences of pages, or of comments in NAME.rt, that docs/phrases finds, with what to write instead
     docs/tool.py sample PAGE      ten sentences at random, to be read cold: what does each say, and was it read twice?
     docs/tool.py counts [--all]   how many of them each page has, and how many words; docs/counts keeps what fell, or all
     docs/tool.py check            what is wrong with the pages, for docs/check
@@ -373,8 +373,16 @@ def pages():
     return ["README.md", "CHANGELOG.md", "CONTRIBUTING.md"] + sorted(glob.glob("docs/*.md")) + sorted(glob.glob("crates/*/README.md"))
 
 
+def prose_of_code(path):
+    """The comments of a source file, with an empty line for each line of code."""
+    found = [re.match(r"\s*//[/!]?\s?(.*)", line) for line in lines_of(path)]
+    return [comment[1] if comment else "" for comment in found]
+
+
 def prose(page):
     """The lines of a page, but an empty line in place of each that is in a block of code, or in a table that a program writes."""
+    if page.endswith(".rt"):
+        return prose_of_code(page)
     kept, fenced, indented, blank = [], False, False, True
     for line in lines_of(page):
         if line.startswith("```"):
