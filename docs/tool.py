@@ -5,7 +5,7 @@
     docs/tool.py laws             each law, in a sentence
     docs/tool.py map [CRATE]      each crate: what it does, what it uses, its source files and its lemmas
     docs/tool.py crates           the picture of the crates, which is docs/crates.svg
-    docs/tool.py phrases [PAGE ..]  the sentences of pages, or of comments in NAME.rt, that docs/phrases finds, with what to write instead
+    docs/tool.py phrases [PAGE]   the sentences of a page, or of the comments of a NAME.rt, that docs/phrases finds, with what to write instead
     docs/tool.py sample PAGE      ten sentences at random, to be read cold: what does each say, and was it read twice?
     docs/tool.py counts [--all]   how many of them each page has, and how many words; docs/counts keeps what fell, or all
     docs/tool.py check            what is wrong with the pages, for docs/check
