@@ -5,6 +5,8 @@
     docs/tool.py laws             each law, in a sentence
     docs/tool.py map [CRATE]      each crate: what it does, what it uses, its source files and its lemmas
     docs/tool.py crates           the picture of the crates, which is docs/crates.svg
+    docs/tool.py cases examples   what the examples and docs/SCRIPTS.md say that is printed, as crates/cases/data/examples.cases
+    docs/tool.py cases kernel     what is printed to the scripts that Linux answers too, as crates/cases/data/kernel.cases
     docs/tool.py phrases [PAGE]   the sentences of a page, or of the comments of a NAME.rt, that docs/phrases finds, with what to write instead
     docs/tool.py sample PAGE      ten sentences at random, to be read cold: what does each say, and was it read twice?
     docs/tool.py counts [--all]   how many of them each page has, and how many words; docs/counts keeps what fell, or all
@@ -359,6 +361,122 @@ def print_crates():
     print(picture(), end="")
 
 
+# ---- cases
+
+
+def script_case(path, name, line=None):
+    """A script as a case, with what its lines `#> ..` expect. Its name is the file's with its first line. `line` is one more line of the case."""
+    first, *rest = lines_of(path)
+    script, printed, threads = [], [], []
+    for said in [first] + rest:
+        # An answer follows '#> ', after the line that prints it, and a check has to find it there.
+        if said.startswith("#> "):
+            printed.append(said[3:])
+            script.append(said)
+        elif not said.startswith("#"):
+            script.append(said)
+        elif said.startswith("# On threads the same is printed, and `audit ok` behind it."):
+            threads = ["-- on threads"]
+    checked = f"-- checked: ok, {len(printed)} answer{'' if len(printed) == 1 else 's'}"
+    return ["", f"== {name}: {first[2:]}", *([line] if line else []), *script, *threads, checked, "-- prints", *printed]
+
+
+def spans_of(cell):
+    return cell.split("`")[1::2]
+
+
+def fault_cause(said):
+    """The cause of a fault of which --explain says this."""
+    for pattern, cause in (
+        (" is missing", "missing argument"),
+        (" is one too many", "extra argument"),
+        (" is no path", "bad name"),
+        (" is (below|above) | is not of decimal digits ", "bad number"),
+        (" has to stand above ", "header after commands"),
+        (" already$", "header twice"),
+    ):
+        if re.search(pattern, said):
+            return cause
+    return "unknown word"
+
+
+def row_cases(kind, cells):
+    """The cases of a row of docs/SCRIPTS.md. A script's lines are the code spans of its cell, and so is what is printed."""
+    if kind == "amounts":
+        shown = spans_of(cells[1])
+        if len(shown) != 1 or not re.fullmatch(r"[0-9]+|max", shown[0]):
+            shown = ["error EINVAL", "max"]
+        for amount in spans_of(cells[0]):
+            yield ["", f"== SCRIPTS.md: an amount: {amount}", "group /a", f"set /a memory.max {amount}", "cat /a memory.max", "-- prints", *shown]
+    elif kind == "explained":
+        # A script that is described in other words than its lines is left out.
+        if re.sub(r"`[^`]*`|, |then|,| ", "", cells[0]) == "":
+            script, said = spans_of(cells[0]), spans_of(cells[1])
+            yield ["", f"== SCRIPTS.md: more is said of {cells[0]}", *script, f"-- faults case:{len(script)}: {fault_cause(said[-1])}", f"-- explained {said[0]}", *said[1:]]
+    elif kind == "prints":
+        yield ["", f"== SCRIPTS.md: {cells[1]}: {cells[0]}", *spans_of(cells[1]), "-- prints", *spans_of(cells[2])]
+    else:
+        fault = spans_of(cells[1])
+        yield ["", f"== SCRIPTS.md: {cells[0]}: {cells[2]}", *spans_of(cells[0]), f"-- faults {fault[0]}", *fault[1:]]
+
+
+# The tables of docs/SCRIPTS.md whose rows are cases, by their heads.
+CASE_TABLES = {
+    "| What happens | Script | It prints |": ("prints", 1),
+    "| Script | Standard error | Why |": ("faults", 0),
+    "| `set /a memory.max` | `cat /a memory.max` |": ("amounts", 0),
+    "| Script | The second line |": ("explained", 0),
+}
+
+
+def page_cases():
+    table = None
+    for line in lines_of("docs/SCRIPTS.md"):
+        if line in CASE_TABLES:
+            table = CASE_TABLES[line]
+        elif not line.startswith("|"):
+            table = None
+        elif table and "`" in line:
+            kind, script = table
+            cells = re.sub(r" \|$", "", line[2:]).split(" | ")
+            if spans_of(cells[script]):
+                yield from row_cases(kind, cells)
+
+
+def example_cases():
+    """What the examples and docs/SCRIPTS.md say that is printed, as cases."""
+    lines = ["What the scripts of examples/ and the tables of docs/SCRIPTS.md say. docs/tool.py cases examples writes this file."]
+    for path in sorted(glob.glob("examples/*.memcg")):
+        lines += script_case(path, os.path.basename(path))
+    for case in page_cases():
+        lines += case
+    return lines
+
+
+def kernel_cases():
+    """What memcgrun answers to the scripts of kernel/scripts, without and with --as-linux. One that is answered otherwise then has a case of its own."""
+    lines = ["What memcgrun answers to the scripts of kernel/scripts, to which Linux answered too. docs/tool.py cases kernel writes this file."]
+    scripts = sorted(glob.glob("*/*.memcg", root_dir="kernel/scripts"))
+    otherwise = [name for name in scripts if os.path.exists(f"kernel/as_linux/{name}")]
+    for name in scripts:
+        if name not in otherwise:
+            lines += script_case(f"kernel/scripts/{name}", name, "-- as linux too")
+    for name in otherwise:
+        lines += script_case(f"kernel/scripts/{name}", name)
+    for name in sorted(glob.glob("*/*.memcg", root_dir="kernel/as_linux")):
+        lines += script_case(f"kernel/as_linux/{name}", f"../as_linux/{name}", "-- with --as-linux")
+    return lines
+
+
+CASES = {"examples": example_cases, "kernel": kernel_cases}
+
+
+def print_cases(theme=None):
+    if theme not in CASES:
+        sys.exit(f"Usage: docs/tool.py cases {'|'.join(CASES)}")
+    print("\n".join(CASES[theme]()))
+
+
 # ---- how the pages are written
 
 # The most words that the pages kept by hand may have together, and a sentence.
@@ -588,6 +706,7 @@ COMMANDS = {
     "laws": print_laws,
     "map": print_map,
     "crates": print_crates,
+    "cases": print_cases,
     "phrases": print_phrases,
     "sample": print_sample,
     "counts": write_counts,
