@@ -7,6 +7,7 @@
     docs/tool.py crates           the picture of the crates, which is docs/crates.svg
     docs/tool.py cases examples   what the examples and docs/SCRIPTS.md say that is printed, as crates/cases/data/examples.cases
     docs/tool.py cases kernel     what is printed to the scripts that Linux answers too, as crates/cases/data/kernel.cases
+    docs/tool.py pages            what is wrong with the crates' pages, as docs/check_pages
     docs/tool.py phrases [PAGE]   the sentences of a page, or of the comments of a NAME.rt, that docs/phrases finds, with what to write instead
     docs/tool.py sample PAGE      ten sentences at random, to be read cold: what does each say, and was it read twice?
     docs/tool.py counts [--all]   how many of them each page has, and how many words; docs/counts keeps what fell, or all
@@ -477,6 +478,157 @@ def print_cases(theme=None):
     print("\n".join(CASES[theme]()))
 
 
+# ---- the crates' pages
+#
+# Each crate of crates.txt has a page, crates/NAME/README.md. On a page
+#   a block of code is fenced, and is word for word in the file that the line above it names ("From `src/tests.rt`:"), except for the space at the head
+#     of its lines. That is a file of the crate, or from the top if it begins with crates/;
+#   the code spans at the head of a list's item name what is public in the crate's sources: `Type::call`, and after it in the same item `other_call` of
+#     the same type, `function`, `Type`; or, with a slash, a file of the crate;
+#   the code spans in brackets after them, or anywhere in the item after a public name, name clauses of those calls;
+#   and the code spans in bold at the head of an item are clauses or calls of the crate.
+
+
+def after_generics(line):
+    """What follows the type parameters at the head of an impl."""
+    depth = 0
+    for at, sign in enumerate(line):
+        depth += (sign == "<") - (sign == ">")
+        if sign == " " and not depth:
+            return line[at + 1 :]
+    return ""
+
+
+def first_word(text):
+    return re.match(r"[A-Za-z_0-9]*", text)[0]
+
+
+def public_names(crate):
+    """What is public in a crate's sources, and the clauses of its calls, as pairs."""
+    public, clauses = set(), set()
+    for path in sorted(glob.glob(f"crates/{crate}/src/*.rt")):
+        type_name, call, all_public = "", "", False
+        for line in lines_of(path):
+            head = re.match(r'(pub )?(const |extern "C" )?(struct|enum|trait|type|const|fn) ', line)
+            method = re.match(r"    (pub(?:\(crate\))? )?(const )?fn ", line)
+            clause = re.match(r" *ensures ([a-z_]+) \{", line)
+            if head:
+                name = first_word(line[head.end() :])
+                type_name, call = "", name if head[3] == "fn" else ""
+                if head[1] or call == "main":
+                    public.add(name)
+                if head[3] == "trait":
+                    type_name, all_public = name, True
+            elif line.startswith("impl"):
+                of = after_generics(line[4:])
+                all_public = " for " in of
+                type_name, call = first_word(of.rpartition(" for ")[2]), ""
+            elif line.startswith("}"):
+                type_name = call = ""
+            elif type_name and method:
+                call = f"{type_name}::{first_word(line[method.end():])}"
+                if all_public or method[1] == "pub ":
+                    public.add(call)
+            elif clause:
+                clauses.add((call, clause[1]))
+    return public, clauses
+
+
+def wrong_item(item, crate, public, clauses):
+    """What the names and clauses at the head of a list's item get wrong."""
+    type_name, named = "", []
+    while span := re.match(r"`([^`]+)`", item):
+        item, name = item[span.end() :], span[1]
+        if "/" in name:
+            if not os.path.exists(f"crates/{crate}/{name}"):
+                yield f"there is no file crates/{crate}/{name}"
+        else:
+            if "::" in name:
+                type_name = name.split("::")[0]
+            elif type_name and name[0].islower():
+                name = f"{type_name}::{name}"
+            if name not in public:
+                yield f"nothing public is named {name}"
+            named.append(name)
+        bracket = re.match(r" \((`[^)]*`)\)", item)
+        if bracket:
+            for clause in re.sub("[`,]", "", bracket[1]).split():
+                if not any((name, clause) in clauses for name in named):
+                    yield f"none of these calls has a clause {clause}"
+            item, named = item[bracket.end() :], []
+        item = re.sub(r"^(, | and |, and |; )`", "`", item)
+    # And each public name with clauses in the rest of the item.
+    for name, bracket in re.findall(r"`([A-Za-z_:]+)` \((`[a-z_]+`(?:, `[a-z_]+`)*)\)", item):
+        name = name if name in public else f"{type_name}::{name}"
+        if name in public and name.split("::")[-1][0].islower():
+            for clause in re.findall("[a-z_]+", bracket):
+                if (name, clause) not in clauses:
+                    yield f"{name} has no clause {clause}"
+
+
+def wrong_page(crate):
+    """What is wrong with a crate's page: pairs of a line's number and what it is."""
+    public, clauses = public_names(crate)
+    above, item, item_line, block, file = "", None, 0, None, ""
+    for number, line in enumerate(lines_of(f"crates/{crate}/README.md") + [""], 1):
+        bare = line.lstrip(" \t")
+        if block is not None and not line.startswith("```"):
+            block.append(bare)
+            continue
+        if item and re.match(r"  [^ ]", line):
+            item += " " + bare
+            continue
+        if item:
+            yield from ((item_line, what) for what in wrong_item(item, crate, public, clauses))
+            item = None
+        if line.startswith("```") and block is None:
+            block, found = [], re.search(r"From `([^`]+)`:$", above)
+            file = found[1] if found else ""
+            if not found:
+                yield number, "the line above a block of code names no file"
+            elif not file.startswith("crates/"):
+                file = f"crates/{crate}/{file}"
+        elif line.startswith("```"):
+            if file and not os.path.exists(file):
+                yield number, f"there is no file {file}"
+            elif file and not block:
+                yield number, "an empty block of code"
+            elif file:
+                text = [source.lstrip(" \t") for source in lines_of(file)]
+                if not any(text[at : at + len(block)] == block for at in range(len(text))):
+                    yield number, f"this block of code is not in {file}"
+            block, above = None, ""
+        elif line.startswith("    "):
+            yield number, "a block of code without a fence"
+        elif line.startswith("- `"):
+            item, item_line = line[2:], number
+        elif line.startswith("- **`"):
+            known = {clause for _, clause in clauses} | {name.split("::")[-1] for name in public}
+            names = re.match(r"(?:\*\*`[a-z_]+`\*\*(?:, | and )?)*", line[2:])[0]
+            for name in re.findall("`([a-z_]+)`", names):
+                if name not in known:
+                    yield number, f"{name} is neither a clause nor a call of the crate"
+        elif line.strip():
+            above = line
+    if block is not None:
+        yield number, "a block of code without an end"
+
+
+def check_crate_pages():
+    wrong = []
+    for crate, _, _ in crate_lines():
+        page = f"crates/{crate}/README.md"
+        if not os.path.exists(page):
+            wrong.append(f"{crate} has no page {page}")
+        else:
+            wrong += [f"{page}:{number}: {what}" for number, what in wrong_page(crate)]
+    for line in wrong:
+        print(f"docs: {line}", file=sys.stderr)
+    if wrong:
+        sys.exit(1)
+    print("docs: each crate has a page, whose code and names are those of the sources")
+
+
 # ---- how the pages are written
 
 # The most words that the pages kept by hand may have together, and a sentence.
@@ -707,6 +859,7 @@ COMMANDS = {
     "map": print_map,
     "crates": print_crates,
     "cases": print_cases,
+    "pages": check_crate_pages,
     "phrases": print_phrases,
     "sample": print_sample,
     "counts": write_counts,
