@@ -193,16 +193,10 @@ def print_laws():
 
 
 def crate_lines():
-    """Each crate of crates.txt in its order: its name, the crates of this list that it uses, and the comment above its group."""
-    found, comment = [], ""
-    for line in lines_of("crates.txt"):
-        if line.startswith("# "):
-            comment = line[2:]
-        named = re.match(r"([a-z_][a-z0-9_]*)[^:#]*:([^#]*)", line)
-        if named:
-            found.append((named[1], named[2].split(), comment))
-    names = {name for name, _, _ in found}
-    return [(name, [used for used in uses if used in names], comment) for name, uses, comment in found]
+    """Each crate of crates.txt in its order: its name, and the crates of this list that it uses."""
+    found = [re.match(r"([a-z_][a-z0-9_]*)[^:#]*:([^#]*)", line) for line in lines_of("crates.txt")]
+    uses = {named[1]: named[2].split() for named in found if named}
+    return [(name, [used for used in uses[name] if used in uses]) for name in uses]
 
 
 def lemma_files(crate):
@@ -238,13 +232,13 @@ def source_files(crate):
 def first_sentence(crate):
     """What the page of a crate says first."""
     text = " ".join(itertools.takewhile(str.strip, lines_of(f"crates/{crate}/README.md")[2:]))
-    return re.split(r"(?<=[.:])\s+(?=[A-Z])", re.sub(r"\]\([^)]*\)", "]", text))[0]
+    return re.split(r"(?<=[.:])\s+(?=[A-Z`])", re.sub(r"\[([^]]*)\]\([^)]*\)", r"\1", text))[0]
 
 
 def print_map(crate=None):
     if crate is None:
         print("# The crates\n\nEach with its files and its lemmas. What one function alone needs is in a folder, proofs/FILE/TYPE/FUNCTION.")
-    for name, uses, _ in crate_lines():
+    for name, uses in crate_lines():
         if crate not in (None, name):
             continue
         print(f"\n## {name}\n\n{first_sentence(name)} It uses {', '.join(uses) or 'no other crate'}.")
@@ -264,7 +258,7 @@ TESTS = {"cases", "acceptance", "streams", "slow_device", "shortages", "leaves",
 def layers():
     """The crates in rows, each above all that it uses; and the lines between them. A line leads to a crate that the upper one uses and does not reach through
     another, with a point in each row between."""
-    uses = {name: used for name, used, _ in crate_lines() if name not in TESTS}
+    uses = {name: used for name, used in crate_lines() if name not in TESTS}
     below, depth = {}, {}
     for name, used in uses.items():
         below[name] = set(used).union(*(below[other] for other in used))
@@ -326,7 +320,6 @@ def picture():
     rows, lines = layers()
     at, width = place(rows, lines)
     row_of = {item: k for k, row in enumerate(rows) for item in row}
-    says = {name: comment for name, _, comment in crate_lines()}
     height = len(rows) * ROW + 2 * MARGIN - 28
     whole = round(width * (BOX + GAP) + 2 * MARGIN)
 
@@ -351,9 +344,8 @@ def picture():
     for row in rows:
         for name in row:
             if isinstance(name, str):
-                title = says[name].replace("&", "&amp;").replace("<", "&lt;")
-                draw(f'<g><title>{title}</title><rect x="{x(name) - BOX // 2}" y="{y(name)}" width="{BOX}" height="30" rx="4" fill="#eef3f8" stroke="#4d6a87"/>'
-                      f'<text x="{x(name)}" y="{y(name) + 20}" text-anchor="middle" fill="#12263a">{name}</text></g>')
+                draw(f'<rect x="{x(name) - BOX // 2}" y="{y(name)}" width="{BOX}" height="30" rx="4" fill="#eef3f8" stroke="#4d6a87"/>')
+                draw(f'<text x="{x(name)}" y="{y(name) + 20}" text-anchor="middle" fill="#12263a">{name}</text>')
     draw("</svg>")
     return "\n".join(drawn) + "\n"
 
@@ -616,7 +608,7 @@ def wrong_page(crate):
 
 def check_crate_pages():
     wrong = []
-    for crate, _, _ in crate_lines():
+    for crate, _ in crate_lines():
         page = f"crates/{crate}/README.md"
         if not os.path.exists(page):
             wrong.append(f"{crate} has no page {page}")
@@ -841,7 +833,7 @@ def check():
     for name, says in laws():
         if not says:
             wrong.append(f"crates/laws/src/lib.rt: the law {name} has no sentence")
-    for crate, _, _ in crate_lines():
+    for crate, _ in crate_lines():
         wrong += [f"crates/{crate}/proofs/{file}.antt does not begin with a comment" for file, says in lemma_files(crate) if not says]
         wrong += [f"crates/{crate}/src/{file} does not begin with a comment" for file, says in source_files(crate) if not says]
     with open("docs/crates.svg", encoding="utf-8") as file:
