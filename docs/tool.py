@@ -446,17 +446,21 @@ def example_cases():
     return lines
 
 
+def scripts_below(folder):
+    return sorted(os.path.relpath(path, folder) for path in glob.glob(f"{folder}/*/*.memcg"))
+
+
 def kernel_cases():
     """What memcgrun answers to the scripts of kernel/scripts, without and with --as-linux. One that is answered otherwise then has a case of its own."""
     lines = ["What memcgrun answers to the scripts of kernel/scripts, to which Linux answered too. docs/tool.py cases kernel writes this file."]
-    scripts = sorted(glob.glob("*/*.memcg", root_dir="kernel/scripts"))
+    scripts = scripts_below("kernel/scripts")
     otherwise = [name for name in scripts if os.path.exists(f"kernel/as_linux/{name}")]
     for name in scripts:
         if name not in otherwise:
             lines += script_case(f"kernel/scripts/{name}", name, "-- as linux too")
     for name in otherwise:
         lines += script_case(f"kernel/scripts/{name}", name)
-    for name in sorted(glob.glob("*/*.memcg", root_dir="kernel/as_linux")):
+    for name in scripts_below("kernel/as_linux"):
         lines += script_case(f"kernel/as_linux/{name}", f"../as_linux/{name}", "-- with --as-linux")
     return lines
 
