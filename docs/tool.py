@@ -5,7 +5,10 @@
     docs/tool.py laws             each law, in a sentence
     docs/tool.py map [CRATE]      each crate: what it does, what it uses, its source files and its lemmas
     docs/tool.py crates           the picture of the crates, which is docs/crates.svg
-    docs/tool.py phrases [PAGE]   the sentences that the list of phrases finds, with what to write instead
+    docs/tool.py cases examples   what the examples and docs/SCRIPTS.md say that is printed, as crates/cases/data/examples.cases
+    docs/tool.py cases kernel     what is printed to the scripts that Linux answers too, as crates/cases/data/kernel.cases
+    docs/tool.py pages            what is wrong with the crates' pages, as docs/check_pages
+    docs/tool.py phrases [PAGE]   the sentences of a page, or of the comments of a NAME.rt, that docs/phrases finds, with what to write instead
     docs/tool.py sample PAGE      ten sentences at random, to be read cold: what does each say, and was it read twice?
     docs/tool.py counts [--all]   how many of them each page has, and how many words; docs/counts keeps what fell, or all
     docs/tool.py check            what is wrong with the pages, for docs/check
@@ -190,16 +193,10 @@ def print_laws():
 
 
 def crate_lines():
-    """Each crate of crates.txt in its order: its name, the crates of this list that it uses, and the comment above its group."""
-    found, comment = [], ""
-    for line in lines_of("crates.txt"):
-        if line.startswith("# "):
-            comment = line[2:]
-        named = re.match(r"([a-z_][a-z0-9_]*)[^:#]*:([^#]*)", line)
-        if named:
-            found.append((named[1], named[2].split(), comment))
-    names = {name for name, _, _ in found}
-    return [(name, [used for used in uses if used in names], comment) for name, uses, comment in found]
+    """Each crate of crates.txt in its order: its name, and the crates of this list that it uses."""
+    found = [re.match(r"([a-z_][a-z0-9_]*)[^:#]*:([^#]*)", line) for line in lines_of("crates.txt")]
+    uses = {named[1]: named[2].split() for named in found if named}
+    return [(name, [used for used in uses[name] if used in uses]) for name in uses]
 
 
 def lemma_files(crate):
@@ -235,13 +232,13 @@ def source_files(crate):
 def first_sentence(crate):
     """What the page of a crate says first."""
     text = " ".join(itertools.takewhile(str.strip, lines_of(f"crates/{crate}/README.md")[2:]))
-    return re.split(r"(?<=[.:])\s+(?=[A-Z])", re.sub(r"\]\([^)]*\)", "]", text))[0]
+    return re.split(r"(?<=[.:])\s+(?=[A-Z`])", re.sub(r"\[([^]]*)\]\([^)]*\)", r"\1", text))[0]
 
 
 def print_map(crate=None):
     if crate is None:
         print("# The crates\n\nEach with its files and its lemmas. What one function alone needs is in a folder, proofs/FILE/TYPE/FUNCTION.")
-    for name, uses, _ in crate_lines():
+    for name, uses in crate_lines():
         if crate not in (None, name):
             continue
         print(f"\n## {name}\n\n{first_sentence(name)} It uses {', '.join(uses) or 'no other crate'}.")
@@ -261,7 +258,7 @@ TESTS = {"cases", "acceptance", "streams", "slow_device", "shortages", "leaves",
 def layers():
     """The crates in rows, each above all that it uses; and the lines between them. A line leads to a crate that the upper one uses and does not reach through
     another, with a point in each row between."""
-    uses = {name: used for name, used, _ in crate_lines() if name not in TESTS}
+    uses = {name: used for name, used in crate_lines() if name not in TESTS}
     below, depth = {}, {}
     for name, used in uses.items():
         below[name] = set(used).union(*(below[other] for other in used))
@@ -323,7 +320,6 @@ def picture():
     rows, lines = layers()
     at, width = place(rows, lines)
     row_of = {item: k for k, row in enumerate(rows) for item in row}
-    says = {name: comment for name, _, comment in crate_lines()}
     height = len(rows) * ROW + 2 * MARGIN - 28
     whole = round(width * (BOX + GAP) + 2 * MARGIN)
 
@@ -348,15 +344,285 @@ def picture():
     for row in rows:
         for name in row:
             if isinstance(name, str):
-                title = says[name].replace("&", "&amp;").replace("<", "&lt;")
-                draw(f'<g><title>{title}</title><rect x="{x(name) - BOX // 2}" y="{y(name)}" width="{BOX}" height="30" rx="4" fill="#eef3f8" stroke="#4d6a87"/>'
-                      f'<text x="{x(name)}" y="{y(name) + 20}" text-anchor="middle" fill="#12263a">{name}</text></g>')
+                draw(f'<rect x="{x(name) - BOX // 2}" y="{y(name)}" width="{BOX}" height="30" rx="4" fill="#eef3f8" stroke="#4d6a87"/>')
+                draw(f'<text x="{x(name)}" y="{y(name) + 20}" text-anchor="middle" fill="#12263a">{name}</text>')
     draw("</svg>")
     return "\n".join(drawn) + "\n"
 
 
 def print_crates():
     print(picture(), end="")
+
+
+# ---- cases
+
+
+def script_case(path, name, line=None):
+    """A script as a case, with what its lines `#> ..` expect. Its name is the file's with its first line. `line` is one more line of the case."""
+    first, *rest = lines_of(path)
+    script, printed, threads = [], [], []
+    for said in [first] + rest:
+        # An answer follows '#> ', after the line that prints it, and a check has to find it there.
+        if said.startswith("#> "):
+            printed.append(said[3:])
+            script.append(said)
+        elif not said.startswith("#"):
+            script.append(said)
+        elif said.startswith("# On threads the same is printed, and `audit ok` behind it."):
+            threads = ["-- on threads"]
+    checked = f"-- checked: ok, {len(printed)} answer{'' if len(printed) == 1 else 's'}"
+    return ["", f"== {name}: {first[2:]}", *([line] if line else []), *script, *threads, checked, "-- prints", *printed]
+
+
+def spans_of(cell):
+    return cell.split("`")[1::2]
+
+
+def fault_cause(said):
+    """The cause of a fault of which --explain says this."""
+    for pattern, cause in (
+        (" is missing", "missing argument"),
+        (" is one too many", "extra argument"),
+        (" is not a (group|file)'s ", "bad name"),
+        (" is (below|above) | is not a number ", "bad number"),
+        (" must come before ", "header after commands"),
+        (" already has ", "header twice"),
+    ):
+        if re.search(pattern, said):
+            return cause
+    return "unknown word"
+
+
+def row_cases(kind, cells):
+    """The cases of a row of docs/SCRIPTS.md. A script's lines are the code spans of its cell, and so is what is printed."""
+    if kind == "amounts":
+        shown = spans_of(cells[1])
+        if len(shown) != 1 or not re.fullmatch(r"[0-9]+|max", shown[0]):
+            shown = ["error EINVAL", "max"]
+        for amount in spans_of(cells[0]):
+            yield ["", f"== SCRIPTS.md: an amount: {amount}", "group /a", f"set /a memory.max {amount}", "cat /a memory.max", "-- prints", *shown]
+    elif kind == "explained":
+        # A script that is described in other words than its lines is left out.
+        if re.sub(r"`[^`]*`|, |then|,| ", "", cells[0]) == "":
+            script, said = spans_of(cells[0]), spans_of(cells[1])
+            yield ["", f"== SCRIPTS.md: more is said of {cells[0]}", *script, f"-- faults case:{len(script)}: {fault_cause(said[-1])}", f"-- explained {said[0]}", *said[1:]]
+    elif kind == "prints":
+        yield ["", f"== SCRIPTS.md: {cells[1]}: {cells[0]}", *spans_of(cells[1]), "-- prints", *spans_of(cells[2])]
+    else:
+        fault = spans_of(cells[1])
+        yield ["", f"== SCRIPTS.md: {cells[0]}: {cells[2]}", *spans_of(cells[0]), f"-- faults {fault[0]}", *fault[1:]]
+
+
+# The tables of docs/SCRIPTS.md whose rows are cases, by their heads.
+CASE_TABLES = {
+    "| What happens | Script | It prints |": ("prints", 1),
+    "| Script | Standard error | Why |": ("faults", 0),
+    "| `set /a memory.max` | `cat /a memory.max` |": ("amounts", 0),
+    "| Script | The second line |": ("explained", 0),
+}
+
+
+def page_cases():
+    table = None
+    for line in lines_of("docs/SCRIPTS.md"):
+        if line in CASE_TABLES:
+            table = CASE_TABLES[line]
+        elif not line.startswith("|"):
+            table = None
+        elif table and "`" in line:
+            kind, script = table
+            cells = re.sub(r" \|$", "", line[2:]).split(" | ")
+            if spans_of(cells[script]):
+                yield from row_cases(kind, cells)
+
+
+def example_cases():
+    """What the examples and docs/SCRIPTS.md say that is printed, as cases."""
+    lines = ["What the scripts of examples/ and the tables of docs/SCRIPTS.md say. docs/tool.py cases examples writes this file."]
+    for path in sorted(glob.glob("examples/*.memcg")):
+        lines += script_case(path, os.path.basename(path))
+    for case in page_cases():
+        lines += case
+    return lines
+
+
+def scripts_below(folder):
+    return sorted(os.path.relpath(path, folder) for path in glob.glob(f"{folder}/*/*.memcg"))
+
+
+def kernel_cases():
+    """What memcgrun answers to the scripts of kernel/scripts, without and with --as-linux. One that is answered otherwise then has a case of its own."""
+    lines = ["What memcgrun answers to the scripts of kernel/scripts, to which Linux answered too. docs/tool.py cases kernel writes this file."]
+    scripts = scripts_below("kernel/scripts")
+    otherwise = [name for name in scripts if os.path.exists(f"kernel/as_linux/{name}")]
+    for name in scripts:
+        if name not in otherwise:
+            lines += script_case(f"kernel/scripts/{name}", name, "-- as linux too")
+    for name in otherwise:
+        lines += script_case(f"kernel/scripts/{name}", name)
+    for name in scripts_below("kernel/as_linux"):
+        lines += script_case(f"kernel/as_linux/{name}", f"../as_linux/{name}", "-- with --as-linux")
+    return lines
+
+
+CASES = {"examples": example_cases, "kernel": kernel_cases}
+
+
+def print_cases(theme=None):
+    if theme not in CASES:
+        sys.exit(f"Usage: docs/tool.py cases {'|'.join(CASES)}")
+    print("\n".join(CASES[theme]()))
+
+
+# ---- the crates' pages
+#
+# Each crate of crates.txt has a page, crates/NAME/README.md. On a page
+#   a block of code is fenced, and is word for word in the file that the line above it names ("From `src/tests.rt`:"), except for the space at the head
+#     of its lines. That is a file of the crate, or from the top if it begins with crates/;
+#   the code spans at the head of a list's item name what is public in the crate's sources: `Type::call`, and after it in the same item `other_call` of
+#     the same type, `function`, `Type`; or, with a slash, a file of the crate;
+#   the code spans in brackets after them, or anywhere in the item after a public name, name clauses of those calls;
+#   and the code spans in bold at the head of an item are clauses or calls of the crate.
+
+
+def after_generics(line):
+    """What follows the type parameters at the head of an impl."""
+    depth = 0
+    for at, sign in enumerate(line):
+        depth += (sign == "<") - (sign == ">")
+        if sign == " " and not depth:
+            return line[at + 1 :]
+    return ""
+
+
+def first_word(text):
+    return re.match(r"[A-Za-z_0-9]*", text)[0]
+
+
+def public_names(crate):
+    """What is public in a crate's sources, and the clauses of its calls, as pairs."""
+    public, clauses = set(), set()
+    for path in sorted(glob.glob(f"crates/{crate}/src/*.rt")):
+        type_name, call, all_public = "", "", False
+        for line in lines_of(path):
+            head = re.match(r'(pub )?(const |extern "C" )?(struct|enum|trait|type|const|fn) ', line)
+            method = re.match(r"    (pub(?:\(crate\))? )?(const )?fn ", line)
+            clause = re.match(r" *ensures ([a-z_]+) \{", line)
+            if head:
+                name = first_word(line[head.end() :])
+                type_name, call = "", name if head[3] == "fn" else ""
+                if head[1] or call == "main":
+                    public.add(name)
+                if head[3] == "trait":
+                    type_name, all_public = name, True
+            elif line.startswith("impl"):
+                of = after_generics(line[4:])
+                all_public = " for " in of
+                type_name, call = first_word(of.rpartition(" for ")[2]), ""
+            elif line.startswith("}"):
+                type_name = call = ""
+            elif type_name and method:
+                call = f"{type_name}::{first_word(line[method.end():])}"
+                if all_public or method[1] == "pub ":
+                    public.add(call)
+            elif clause:
+                clauses.add((call, clause[1]))
+    return public, clauses
+
+
+def wrong_item(item, crate, public, clauses):
+    """What the names and clauses at the head of a list's item get wrong."""
+    type_name, named = "", []
+    while span := re.match(r"`([^`]+)`", item):
+        item, name = item[span.end() :], span[1]
+        if "/" in name:
+            if not os.path.exists(f"crates/{crate}/{name}"):
+                yield f"there is no file crates/{crate}/{name}"
+        else:
+            if "::" in name:
+                type_name = name.split("::")[0]
+            elif type_name and name[0].islower():
+                name = f"{type_name}::{name}"
+            if name not in public:
+                yield f"nothing public is named {name}"
+            named.append(name)
+        bracket = re.match(r" \((`[^)]*`)\)", item)
+        if bracket:
+            for clause in re.sub("[`,]", "", bracket[1]).split():
+                if not any((name, clause) in clauses for name in named):
+                    yield f"none of these calls has a clause {clause}"
+            item, named = item[bracket.end() :], []
+        item = re.sub(r"^(, | and |, and |; )`", "`", item)
+    # And each public name with clauses in the rest of the item.
+    for name, bracket in re.findall(r"`([A-Za-z_:]+)` \((`[a-z_]+`(?:, `[a-z_]+`)*)\)", item):
+        name = name if name in public else f"{type_name}::{name}"
+        if name in public and name.split("::")[-1][0].islower():
+            for clause in re.findall("[a-z_]+", bracket):
+                if (name, clause) not in clauses:
+                    yield f"{name} has no clause {clause}"
+
+
+def wrong_page(crate):
+    """What is wrong with a crate's page: pairs of a line's number and what it is."""
+    public, clauses = public_names(crate)
+    above, item, item_line, block, file = "", None, 0, None, ""
+    for number, line in enumerate(lines_of(f"crates/{crate}/README.md") + [""], 1):
+        bare = line.lstrip(" \t")
+        if block is not None and not line.startswith("```"):
+            block.append(bare)
+            continue
+        if item and re.match(r"  [^ ]", line):
+            item += " " + bare
+            continue
+        if item:
+            yield from ((item_line, what) for what in wrong_item(item, crate, public, clauses))
+            item = None
+        if line.startswith("```") and block is None:
+            block, found = [], re.search(r"From `([^`]+)`:$", above)
+            file = found[1] if found else ""
+            if not found:
+                yield number, "the line above a block of code names no file"
+            elif not file.startswith("crates/"):
+                file = f"crates/{crate}/{file}"
+        elif line.startswith("```"):
+            if file and not os.path.exists(file):
+                yield number, f"there is no file {file}"
+            elif file and not block:
+                yield number, "an empty block of code"
+            elif file:
+                text = [source.lstrip(" \t") for source in lines_of(file)]
+                if not any(text[at : at + len(block)] == block for at in range(len(text))):
+                    yield number, f"this block of code is not in {file}"
+            block, above = None, ""
+        elif line.startswith("    "):
+            yield number, "a block of code without a fence"
+        elif line.startswith("- `"):
+            item, item_line = line[2:], number
+        elif line.startswith("- **`"):
+            known = {clause for _, clause in clauses} | {name.split("::")[-1] for name in public}
+            names = re.match(r"(?:\*\*`[a-z_]+`\*\*(?:, | and )?)*", line[2:])[0]
+            for name in re.findall("`([a-z_]+)`", names):
+                if name not in known:
+                    yield number, f"{name} is neither a clause nor a call of the crate"
+        elif line.strip():
+            above = line
+    if block is not None:
+        yield number, "a block of code without an end"
+
+
+def check_crate_pages():
+    wrong = []
+    for crate, _ in crate_lines():
+        page = f"crates/{crate}/README.md"
+        if not os.path.exists(page):
+            wrong.append(f"{crate} has no page {page}")
+        else:
+            wrong += [f"{page}:{number}: {what}" for number, what in wrong_page(crate)]
+    for line in wrong:
+        print(f"docs: {line}", file=sys.stderr)
+    if wrong:
+        sys.exit(1)
+    print("docs: each crate has a page, whose code and names are those of the sources")
 
 
 # ---- how the pages are written
@@ -373,8 +639,16 @@ def pages():
     return ["README.md", "CHANGELOG.md", "CONTRIBUTING.md"] + sorted(glob.glob("docs/*.md")) + sorted(glob.glob("crates/*/README.md"))
 
 
+def prose_of_code(path):
+    """The comments of a source file, with an empty line for each line of code."""
+    found = [re.match(r"\s*//[/!]?\s?(.*)", line) for line in lines_of(path)]
+    return [comment[1] if comment else "" for comment in found]
+
+
 def prose(page):
     """The lines of a page, but an empty line in place of each that is in a block of code, or in a table that a program writes."""
+    if page.endswith(".rt"):
+        return prose_of_code(page)
     kept, fenced, indented, blank = [], False, False, True
     for line in lines_of(page):
         if line.startswith("```"):
@@ -563,7 +837,7 @@ def check():
     for name, says in laws():
         if not says:
             wrong.append(f"crates/laws/src/lib.rt: the law {name} has no sentence")
-    for crate, _, _ in crate_lines():
+    for crate, _ in crate_lines():
         wrong += [f"crates/{crate}/proofs/{file}.antt does not begin with a comment" for file, says in lemma_files(crate) if not says]
         wrong += [f"crates/{crate}/src/{file} does not begin with a comment" for file, says in source_files(crate) if not says]
     with open("docs/crates.svg", encoding="utf-8") as file:
@@ -580,6 +854,8 @@ COMMANDS = {
     "laws": print_laws,
     "map": print_map,
     "crates": print_crates,
+    "cases": print_cases,
+    "pages": check_crate_pages,
     "phrases": print_phrases,
     "sample": print_sample,
     "counts": write_counts,

@@ -215,8 +215,8 @@ pub fn only_hits_mark()
     ensures { OnlyHitsMark }
 {}
 
-/// Of all calls of a book only a merge marks pages, and only those held in the frames of its bits. So no
-/// access marks a page by itself, and no bit marks the page that had its frame before.
+/// No call of a book but a merge marks pages, and a merge marks only those held in the frames of its bits. So
+/// no access marks a page by itself, and no bit marks the page that had its frame before.
 pub fn only_merges_mark()
     ensures { OnlyMergesMark }
 {}
@@ -227,7 +227,7 @@ pub fn merges_change_marks_alone()
 {}
 
 /// After every run a merge is answered `Ok`, whatever pass asks for it, and marks the pages held in the
-/// frames of its bits. So it is refused neither because the trace is full nor for lack of memory.
+/// frames of its bits. So neither a full trace nor lack of memory refuses it.
 pub fn merges_are_served()
     ensures { MergesAreServed }
 {}
