@@ -3,8 +3,9 @@ use Rattle.std.proofs.Common.{◌≡◌, ◌≢◌, ℕ, zero, suc, ◌+◌, ◌
 use Rattle.std.specs.Prelude.{AllPairs}
 use Rattle.std.specs.List.{sum_by}
 use Rattle.std.proofs.lemmas.List.Sums.{sum_by-cons}
-use Rattle.book.specs.Passes.{PassOf, count_of}
-use Rattle.book.specs.declared.kept.Kept.{Kept}
+use Rattle.live.specs.declared.history.Exchange.{Exchange}
+use Rattle.live.specs.Exchanges.{entries_in}
+use Rattle.live.specs.Passes.{PassOf}
 use Rattle.live.specs.declared.history.Told.{Told}
 use Rattle.live.specs.declared.history.Row.{Row}
 use Rattle.live.specs.declared.history.View.{View}
@@ -36,32 +37,32 @@ joined-rows view rows =
     ∙ ap (λ (n : ℕ). record { books = view.books; rolls = view.rolls; given = view.given; rolled = n; log = view.log; rows = rows ++ view.rows }) (plus-none view.rolled))
 
 -- the last pass is taken out, and its row is put to the front
-pub rows-moved : (passes left : List PassOf) (pass : PassOf) (rows : List Row) → passes ≡ left ++ pass ∷ [] → rows_of left ++ (row pass.caller.worker pass.kept ∷ [] ++ rows) ≡ rows_of passes ++ rows
+pub rows-moved : (passes left : List PassOf) (pass : PassOf) (rows : List Row) → passes ≡ left ++ pass ∷ [] → rows_of left ++ (row pass.caller.worker pass.exchanges ∷ [] ++ rows) ≡ rows_of passes ++ rows
 rows-moved passes left pass rows is =
-    sym (append_assoc (rows_of left) (row pass.caller.worker pass.kept ∷ []) rows) ∙ ap (λ (l : List Row). l ++ rows) (sym (ap rows_of is ∙ pushed left pass))
+    sym (append_assoc (rows_of left) (row pass.caller.worker pass.exchanges ∷ []) rows) ∙ ap (λ (l : List Row). l ++ rows) (sym (ap rows_of is ∙ pushed left pass))
   where
-    pushed : (left : List PassOf) (pass : PassOf) → rows_of (left ++ pass ∷ []) ≡ rows_of left ++ row pass.caller.worker pass.kept ∷ []
+    pushed : (left : List PassOf) (pass : PassOf) → rows_of (left ++ pass ∷ []) ≡ rows_of left ++ row pass.caller.worker pass.exchanges ∷ []
     pushed [] pass = refl
-    pushed (x ∷ left) pass = ap (λ (l : List Row). row x.caller.worker x.kept ∷ l) (pushed left pass)
+    pushed (x ∷ left) pass = ap (λ (l : List Row). row x.caller.worker x.exchanges ∷ l) (pushed left pass)
 
 -- ---- passes whose rows are all
 
-pub each-told : (log : List Told) (passes : List PassOf) → AreRows log (rows_of passes) → All (λ (pass : PassOf). pass.kept ≡ told_to pass.caller.worker log) passes
+pub each-told : (log : List Told) (passes : List PassOf) → AreRows log (rows_of passes) → All (λ (pass : PassOf). pass.exchanges ≡ told_to pass.caller.worker log) passes
 each-told log [] are k d lt = absurd (omega arith)
 each-told log (pass ∷ passes) are zero d lt = are.0
 each-told log (pass ∷ passes) are (suc k) d lt = each-told log passes are.1 k d (omega arith)
 
-pub weight-passes : (h : Kept → ℕ) (passes : List PassOf) → sum_by (λ (pass : PassOf). sum_by h pass.kept) passes ≡ weight_in h (rows_of passes)
+pub weight-passes : (h : Exchange → ℕ) (passes : List PassOf) → sum_by (λ (pass : PassOf). sum_by h pass.exchanges) passes ≡ weight_in h (rows_of passes)
 weight-passes h [] = refl
-weight-passes h (pass ∷ passes) = omega (arith, sum_by-cons (λ (s : PassOf). sum_by h s.kept) pass passes, sum_by-cons (λ (r : Row). sum_by h r.kept) (row pass.caller.worker pass.kept) (rows_of passes), weight-passes h passes)
+weight-passes h (pass ∷ passes) = omega (arith, sum_by-cons (λ (s : PassOf). sum_by h s.exchanges) pass passes, sum_by-cons (λ (r : Row). sum_by h r.exchanges) (row pass.caller.worker pass.exchanges) (rows_of passes), weight-passes h passes)
 
 times-there : (worker : ℕ) (passes : List PassOf) (k : ℕ) (d : PassOf) → k < length passes → (get_or passes k d).caller.worker ≡ worker → 1 ≤ times_in worker (rows_of passes)
 times-there worker [] k d lt is = absurd (omega arith)
 times-there worker (pass ∷ passes) zero d lt is =
     let one : times_in worker (rows_of (pass ∷ passes)) ≡ 1 + times_in worker (rows_of passes) =
-    subst (λ (n : ℕ). times_in n (rows_of (pass ∷ passes)) ≡ 1 + times_in n (rows_of passes)) is (times-own (row pass.caller.worker pass.kept) (rows_of passes)) in
+    subst (λ (n : ℕ). times_in n (rows_of (pass ∷ passes)) ≡ 1 + times_in n (rows_of passes)) is (times-own (row pass.caller.worker pass.exchanges) (rows_of passes)) in
     omega (arith, one)
-times-there worker (pass ∷ passes) (suc k) d lt is = omega (arith, times-there worker passes k d (omega arith) is, times-less worker (row pass.caller.worker pass.kept) (rows_of passes))
+times-there worker (pass ∷ passes) (suc k) d lt is = omega (arith, times-there worker passes k d (omega arith) is, times-less worker (row pass.caller.worker pass.exchanges) (rows_of passes))
 
 -- where there is one row of a worker at most, no two passes are of one
 pub apart-passes : (passes : List PassOf) → ((worker : ℕ) → times_in worker (rows_of passes) ≤ 1) → AllPairs (λ (pass other : PassOf). pass.caller.worker ≢ other.caller.worker) passes
@@ -69,9 +70,9 @@ apart-passes [] once i j d lt within = absurd (omega arith)
 apart-passes (pass ∷ passes) once i zero d lt within = absurd (omega arith)
 apart-passes (pass ∷ passes) once zero (suc j) d lt within =
     λ (e : pass.caller.worker ≡ (get_or passes j d).caller.worker).
-    absurd (omega (arith, times-there pass.caller.worker passes j d (omega arith) (sym e), times-own (row pass.caller.worker pass.kept) (rows_of passes), once pass.caller.worker))
+    absurd (omega (arith, times-there pass.caller.worker passes j d (omega arith) (sym e), times-own (row pass.caller.worker pass.exchanges) (rows_of passes), once pass.caller.worker))
 apart-passes (pass ∷ passes) once (suc i) (suc j) d lt within =
-    apart-passes passes (λ worker. omega (arith, once worker, times-less worker (row pass.caller.worker pass.kept) (rows_of passes))) i j d (omega arith) (omega arith)
+    apart-passes passes (λ worker. omega (arith, once worker, times-less worker (row pass.caller.worker pass.exchanges) (rows_of passes))) i j d (omega arith) (omega arith)
 
 pub length-rows : (passes : List PassOf) → length (rows_of passes) ≡ length passes
 length-rows [] = refl
@@ -83,13 +84,13 @@ sum-ones : {A : Type 0} (xs : List A) → sum_by (λ (x : A). 1) xs ≡ length x
 sum-ones [] = refl
 sum-ones {A} (x ∷ xs) = omega (arith, sum_by-cons (λ (y : A). 1) x xs, sum-ones xs)
 
-sum-lengths : (passes : List PassOf) → sum_by (λ (pass : PassOf). length pass.kept) passes ≡ sum_by (λ (pass : PassOf). sum_by (λ (k : Kept). 1) pass.kept) passes
+sum-lengths : (passes : List PassOf) → sum_by (λ (pass : PassOf). length pass.exchanges) passes ≡ sum_by (λ (pass : PassOf). sum_by (λ (k : Exchange). 1) pass.exchanges) passes
 sum-lengths [] = refl
 sum-lengths (pass ∷ passes) =
-    omega (arith, sum_by-cons (λ (p : PassOf). length p.kept) pass passes, sum_by-cons (λ (p : PassOf). sum_by (λ (k : Kept). 1) p.kept) pass passes, sum-ones pass.kept, sum-lengths passes)
+    omega (arith, sum_by-cons (λ (p : PassOf). length p.exchanges) pass passes, sum_by-cons (λ (p : PassOf). sum_by (λ (k : Exchange). 1) p.exchanges) pass passes, sum-ones pass.exchanges, sum-lengths passes)
 
 module _ (opening : Opening) (acts : List Act) (past : Past) (leads : Leads opening acts past) (entries : List Entry) (trace : past.history ≡ reverse entries) (passes : List PassOf)
-    (each : All (λ (pass : PassOf). pass.kept ≡ told_to pass.caller.worker (told_in acts)) passes) (apart : AreApart passes) where
+    (each : All (λ (pass : PassOf). pass.exchanges ≡ told_to pass.caller.worker (told_in acts)) passes) (apart : AreApart passes) where
   oldest : reverse past.history ≡ entries
   oldest = ap reverse trace ∙ reverse-reverse entries
 
@@ -97,19 +98,19 @@ module _ (opening : Opening) (acts : List Act) (past : Past) (leads : Leads open
   pub matches : Matches entries passes
   matches = record {
     apart = apart;
-    same = All-weaker (λ (pass : PassOf). pass.kept ≡ told_to pass.caller.worker (told_in acts)) (λ (pass : PassOf). answers_of pass.kept ≡ told_of pass.caller.worker entries)
+    same = All-weaker (λ (pass : PassOf). pass.exchanges ≡ told_to pass.caller.worker (told_in acts)) (λ (pass : PassOf). answers_of pass.exchanges ≡ told_of pass.caller.worker entries)
         (λ pass kept. ap answers_of kept ∙ (sym (told-trace opening acts past leads pass.caller.worker) ∙ ap (told_of pass.caller.worker) oldest)) passes each;
   }
 
-  module _ (weight : (h : Kept → ℕ) → weight_in h (rows_of passes) ≡ weight_told h (told_in acts)) where
+  module _ (weight : (h : Exchange → ℕ) → weight_in h (rows_of passes) ≡ weight_told h (told_in acts)) where
     -- and together they keep as many answers as it has entries
-    pub counted : length entries ≡ sum_by (λ (pass : PassOf). count_of pass.kept) passes
+    pub counted : length entries ≡ sum_by (λ (pass : PassOf). entries_in pass.exchanges) passes
     counted =
         let all = weight-passes entry_weight passes in
         omega (arith, length-reverse entries, ap length trace, weight-trace opening acts past leads, weight entry_weight, all)
 
-    pub whole : sum_by (λ (pass : PassOf). length pass.kept) passes ≡ length (told_in acts)
-    whole = sum-lengths passes ∙ (weight-passes (λ (k : Kept). 1) passes ∙ (weight (λ (k : Kept). 1) ∙ sum-ones (told_in acts)))
+    pub whole : sum_by (λ (pass : PassOf). length pass.exchanges) passes ≡ length (told_in acts)
+    whole = sum-lengths passes ∙ (weight-passes (λ (k : Exchange). 1) passes ∙ (weight (λ (k : Exchange). 1) ∙ sum-ones (told_in acts)))
 
 -- ---- the end
 
@@ -118,19 +119,19 @@ module _ (table : TableId) (opening : Opening) (past : Past) (log : LogOf) (shar
   acts-log : view.log ≡ told_in shared.acts
   acts-log = log-is ∙ sym shared.told_is
 
-  all-told : All (λ (pass : PassOf). pass.kept ≡ told_to pass.caller.worker (told_in shared.acts)) passes
+  all-told : All (λ (pass : PassOf). pass.exchanges ≡ told_to pass.caller.worker (told_in shared.acts)) passes
   all-told = each-told (told_in shared.acts) passes (subst (λ (l : List Told). AreRows l (rows_of passes)) acts-log all.rows)
 
   all-apart : AreApart passes
   all-apart = apart-passes passes all.once
 
-  all-weight : (h : Kept → ℕ) → weight_in h (rows_of passes) ≡ weight_told h (told_in shared.acts)
+  all-weight : (h : Exchange → ℕ) → weight_in h (rows_of passes) ≡ weight_told h (told_in shared.acts)
   all-weight h = all.weight (let long = length-rows passes in omega (arith, most, long)) h ∙ ap (weight_told h) acts-log
 
   pub run-matches : Matches entries passes
   run-matches = matches opening shared.acts past shared.leads entries trace passes all-told all-apart
 
-  pub run-counted : length entries ≡ sum_by (λ (pass : PassOf). count_of pass.kept) passes
+  pub run-counted : length entries ≡ sum_by (λ (pass : PassOf). entries_in pass.exchanges) passes
   run-counted = counted opening shared.acts past shared.leads entries trace passes all-told all-apart all-weight
 
   pub one-run : IsOneRun opening entries passes
@@ -145,5 +146,5 @@ module _ (table : TableId) (opening : Opening) (past : Past) (log : LogOf) (shar
     all = whole opening shared.acts past shared.leads entries trace passes all-told all-apart all-weight;
   }
 
-  pub run-each : All (λ (pass : PassOf). WereGiven opening (reverse entries) pass.caller.worker pass.kept) passes
+  pub run-each : All (λ (pass : PassOf). WereGiven opening (reverse entries) pass.caller.worker pass.exchanges) passes
   run-each = passes-given opening shared.acts past (reverse entries) passes shared.leads trace all-told

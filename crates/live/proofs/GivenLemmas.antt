@@ -6,36 +6,37 @@ use Rattle.std.proofs.lemmas.List.Elements.{All-weaker}
 use Rattle.machine.specs.declared.entry.Entry.{Entry}
 use Rattle.machine.specs.State.{Opening}
 use Rattle.machine.specs.Call.{Past, entry_of}
-use Rattle.book.specs.declared.kept.Kept.{Kept}
-use Rattle.book.specs.declared.kept.Kept.TheVariants.{Call, Find}
-use Rattle.book.specs.Passes.{PassOf, call_of, is_entry}
+use Rattle.live.specs.declared.history.Exchange.{Exchange}
+use Rattle.live.specs.declared.history.Exchange.TheVariants.{Call, Find}
+use Rattle.live.specs.Exchanges.{stands}
+use Rattle.live.specs.Passes.{PassOf}
 use Rattle.live.specs.Told.{told, told_to}
 use Rattle.live.specs.OneRun.{Act, Tells, Merges, GivesOut, Gives, Leads, told_in, WasGiven, WereGiven}
 use Rattle.live.proofs.ActLemmas.{called-history, merged-history, count-trace}
 
 -- ---- one thing more
 
-last : (kept : List Kept) (what other : Kept) → get_or (kept ++ what ∷ []) (length kept) other ≡ what
+last : (kept : List Exchange) (what other : Exchange) → get_or (kept ++ what ∷ []) (length kept) other ≡ what
 last [] what other = refl
 last (x ∷ kept) what other = last kept what other
 
-given-push : (opening : Opening) (history : List Entry) (worker : ℕ) (kept : List Kept) (what : Kept) → WereGiven opening history worker kept → WasGiven opening history worker kept what → WereGiven opening history worker (kept ++ what ∷ [])
+given-push : (opening : Opening) (history : List Entry) (worker : ℕ) (kept : List Exchange) (what : Exchange) → WereGiven opening history worker kept → WasGiven opening history worker kept what → WereGiven opening history worker (kept ++ what ∷ [])
 given-push opening history worker kept what were was k other lt = by (cases_lt k (length kept))
   where
     by : (k < length kept) ⊎ (length kept ≤ k) → WasGiven opening history worker (take k (kept ++ what ∷ [])) (get_or (kept ++ what ∷ []) k other)
     by (inl less) =
-        let one = subst (λ (l : List Kept). WasGiven opening history worker l (get_or kept k other)) (sym (take-append-le k kept (what ∷ []) (omega arith))) (were k other less) in
+        let one = subst (λ (l : List Exchange). WasGiven opening history worker l (get_or kept k other)) (sym (take-append-le k kept (what ∷ []) (omega arith))) (were k other less) in
         subst (WasGiven opening history worker (take k (kept ++ what ∷ []))) (sym (get_or_append_left kept (what ∷ []) other k less)) one
     by (inr most) =
         let here : length kept ≡ k = omega (arith, length-append kept (what ∷ []), lt, most) in
         let all : take (length kept) (kept ++ what ∷ []) ≡ kept = take-append-le (length kept) kept (what ∷ []) (omega arith) ∙ take_all (length kept) kept (omega arith) in
-        let one = subst (λ (l : List Kept). WasGiven opening history worker l what) (sym all) was in
+        let one = subst (λ (l : List Exchange). WasGiven opening history worker l what) (sym all) was in
         let two = subst (WasGiven opening history worker (take (length kept) (kept ++ what ∷ []))) (sym (last kept what other)) one in
         subst (λ (n : ℕ). WasGiven opening history worker (take n (kept ++ what ∷ [])) (get_or (kept ++ what ∷ []) n other)) here two
 
 -- ---- a longer history
 
-given-later : (opening : Opening) (history longer more : List Entry) (worker : ℕ) (kept : List Kept) → longer ≡ more ++ history → WereGiven opening history worker kept → WereGiven opening longer worker kept
+given-later : (opening : Opening) (history longer more : List Entry) (worker : ℕ) (kept : List Exchange) → longer ≡ more ++ history → WereGiven opening history worker kept → WereGiven opening longer worker kept
 given-later opening history longer more worker kept is were k other lt =
     let was = were k other lt in
     record {
@@ -53,7 +54,7 @@ given-later opening history longer more worker kept is were k other lt =
 
 -- ---- a run
 
-told-here : (opening : Opening) (acts : List Act) (before after : Past) (worker by : ℕ) (what : Kept) (more : List Entry) → Leads opening acts before → Gives before by what after → after.history ≡ more ++ before.history
+told-here : (opening : Opening) (acts : List Act) (before after : Past) (worker by : ℕ) (what : Exchange) (more : List Entry) → Leads opening acts before → Gives before by what after → after.history ≡ more ++ before.history
     → WereGiven opening before.history worker (told_to worker (told_in acts)) → WereGiven opening after.history worker (told_to worker (told by what ∷ told_in acts))
 told-here opening acts before after worker by what more leads gives is were = split (cases_eq by worker)
   where
@@ -83,18 +84,17 @@ one-more : (b : Bool) (entry : Entry) (old new : List Entry) → new ≡ cond b 
 one-more true entry old new is = is
 one-more false entry old new is = is
 
-same-history : (opening : Opening) (old new : List Entry) (worker : ℕ) (kept : List Kept) → new ≡ old → WereGiven opening old worker kept → WereGiven opening new worker kept
+same-history : (opening : Opening) (old new : List Entry) (worker : ℕ) (kept : List Exchange) → new ≡ old → WereGiven opening old worker kept → WereGiven opening new worker kept
 same-history opening old new worker kept is were = subst (λ (h : List Entry). WereGiven opening h worker kept) (sym is) were
 
 pub run-given : (opening : Opening) (acts : List Act) (past : Past) → Leads opening acts past → (worker : ℕ) → WereGiven opening past.history worker (told_to worker (told_in acts))
 run-given opening [] past h worker = λ k other lt. absurd (omega arith)
-run-given opening (Tells by (Call asked said) ∷ acts) past h worker =
+run-given opening (Tells by (Call what said) ∷ acts) past h worker =
     let before = h.0 in
-    let called = h.2 in
-    let b = is_entry (call_of called.0 said) in
-    let entry = entry_of (record { worker = by }) before.history called.0 said in
-    told-here opening acts before past worker by (Call asked said) (cond b (entry ∷ []) []) h.1 h.2
-    (one-more b entry before.history past.history (called-history before (record { worker = by }) called.0 past called.2 said called.3))
+    let b = stands (Call what said) in
+    let entry = entry_of (record { worker = by }) before.history what said in
+    told-here opening acts before past worker by (Call what said) (cond b (entry ∷ []) []) h.1 h.2
+    (one-more b entry before.history past.history (called-history before (record { worker = by }) what past h.2.0 said h.2.1))
     (run-given opening acts before h.1 worker)
 run-given opening (Tells by (Find path found) ∷ acts) past h worker =
     told-here opening acts h.0 past worker by (Find path found) [] h.1 h.2 (ap (λ (p : Past). p.history) h.2.1) (run-given opening acts h.0 h.1 worker)
@@ -104,8 +104,8 @@ run-given opening (GivesOut ∷ acts) past h worker =
     same-history opening h.0.history past.history worker (told_to worker (told_in acts)) (ap (λ (p : Past). p.history) h.2) (run-given opening acts h.0 h.1 worker)
 
 pub passes-given : (opening : Opening) (acts : List Act) (past : Past) (history : List Entry) (passes : List PassOf) → Leads opening acts past → past.history ≡ history
-    → All (λ (pass : PassOf). pass.kept ≡ told_to pass.caller.worker (told_in acts)) passes → All (λ (pass : PassOf). WereGiven opening history pass.caller.worker pass.kept) passes
+    → All (λ (pass : PassOf). pass.exchanges ≡ told_to pass.caller.worker (told_in acts)) passes → All (λ (pass : PassOf). WereGiven opening history pass.caller.worker pass.exchanges) passes
 passes-given opening acts past history passes leads is each =
-    All-weaker (λ (pass : PassOf). pass.kept ≡ told_to pass.caller.worker (told_in acts)) (λ (pass : PassOf). WereGiven opening history pass.caller.worker pass.kept)
-    (λ pass kept. subst (λ (h : List Entry). WereGiven opening h pass.caller.worker pass.kept) is (subst (WereGiven opening past.history pass.caller.worker) (sym kept) (run-given opening acts past leads pass.caller.worker)))
+    All-weaker (λ (pass : PassOf). pass.exchanges ≡ told_to pass.caller.worker (told_in acts)) (λ (pass : PassOf). WereGiven opening history pass.caller.worker pass.exchanges)
+    (λ pass kept. subst (λ (h : List Entry). WereGiven opening h pass.caller.worker pass.exchanges) is (subst (WereGiven opening past.history pass.caller.worker) (sym kept) (run-given opening acts past leads pass.caller.worker)))
     passes each

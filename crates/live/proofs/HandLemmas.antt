@@ -31,17 +31,19 @@ use Rattle.legal.proofs.SoundLemmas.{legal-files}
 use Rattle.pages.specs.PagesOf.{labelled, moving}
 use Rattle.pages.proofs.TableLemmas.{any-some}
 use Rattle.book.specs.declared.kept.Asked.{Asked}
-use Rattle.book.specs.declared.kept.Kept.{Kept}
-use Rattle.book.specs.declared.kept.Kept.TheVariants.{Call}
+use Rattle.book.specs.declared.kept.Kept.TheVariants.{Call as Kept_call}
 use Rattle.book.specs.declared.event.Event.{Event as Asks}
 use Rattle.book.specs.declared.event.Event.TheVariants as event
 use Rattle.book.specs.declared.event.Reply.{Reply as Answer}
 use Rattle.book.specs.declared.event.Reply.TheVariants as answer
 use Rattle.book.specs.Events.{event_of, reply_of}
-use Rattle.book.specs.Passes.{asked_of, call_of, find_of}
+use Rattle.book.specs.Passes.{asked_of, call_of}
 use Rattle.book.specs.Replies.{HandsOut}
 use Rattle.book.proofs.FlightLemmas.{flying-stands}
+use Rattle.live.specs.declared.history.Exchange.{Exchange}
+use Rattle.live.specs.declared.history.Exchange.TheVariants.{Call}
 use Rattle.live.specs.declared.history.Told.{Told}
+use Rattle.live.specs.Exchanges.{finding}
 use Rattle.live.specs.Told.{told, told_to, telling}
 use Rattle.live.specs.Matching.{asks_end}
 use Rattle.live.specs.Shares.{is_strange}
@@ -175,20 +177,20 @@ not-refused Out n why e = cc
 
 -- ---- what workers were told
 
-last-same : (xs ys : List Kept) (x y : Kept) → xs ++ x ∷ [] ≡ ys ++ y ∷ [] → x ≡ y
+last-same : (xs ys : List Exchange) (x y : Exchange) → xs ++ x ∷ [] ≡ ys ++ y ∷ [] → x ≡ y
 last-same xs ys x y e = heads (sym (reverse-append xs (x ∷ [])) ∙ (ap reverse e ∙ reverse-append ys (y ∷ [])))
   where
     heads : x ∷ reverse xs ≡ y ∷ reverse ys → x ≡ y
     heads f = cc
 
-answers-same : (asked other : Asked) (said given : Reply) → Call asked said ≡ Call other given → said ≡ given
+answers-same : (asked other : Event) (said given : Reply) → Call asked said ≡ Call other given → said ≡ given
 answers-same asked other said given e = cc
 
 -- what the newest thing is that the worker itself was told
-own-last : (worker n : ℕ) (direction : Direction) (what : Kept) (log : List Told) (h : IsInHand direction n (told_to worker (told worker what ∷ log))) → what ≡ Call h.asked (begun_by direction n)
+own-last : (worker n : ℕ) (direction : Direction) (what : Exchange) (log : List Told) (h : IsInHand direction n (told_to worker (told worker what ∷ log))) → what ≡ Call h.asked (begun_by direction n)
 own-last worker n direction what log h = last-same (told_to worker log) h.earlier what (Call h.asked (begun_by direction n)) (sym (told-own worker what log) ∙ h.last)
 
-other-last : (by worker n : ℕ) (direction : Direction) (what : Kept) (log : List Told) → by ≢ worker → IsInHand direction n (told_to worker (told by what ∷ log)) → IsInHand direction n (told_to worker log)
+other-last : (by worker n : ℕ) (direction : Direction) (what : Exchange) (log : List Told) → by ≢ worker → IsInHand direction n (told_to worker (told by what ∷ log)) → IsInHand direction n (told_to worker log)
 other-last by worker n direction what log ne h = record { earlier = h.earlier; asked = h.asked; last = sym (told-other by worker what log ne) ∙ h.last }
 
 -- ---- tickets in hand go on
@@ -196,7 +198,7 @@ other-last by worker n direction what log ne h = record { earlier = h.earlier; a
 pub hands-none : (past : Past) → HandsAre past []
 hands-none past worker n direction h = absurd (none h.earlier h.last)
   where
-    none : (xs : List Kept) → [] ≡ xs ++ Call h.asked (begun_by direction n) ∷ [] → ⊥
+    none : (xs : List Exchange) → [] ≡ xs ++ Call h.asked (begun_by direction n) ∷ [] → ⊥
     none [] e = cc
     none (x ∷ xs) e = cc
 
@@ -205,30 +207,30 @@ hands-same old new log state history hands worker n direction h =
     ap (λ (s : State). took s.pages new.history (record { worker = worker }) direction n) state
     ∙ (ap (λ (es : List Entry). took old.state.pages es (record { worker = worker }) direction n) history ∙ hands worker n direction h)
 
-hands-find : (past : Past) (by : ℕ) (path : List ℕ) (g : Option ℕ) (log : List Told) → HandsAre past log → HandsAre past (told by (find_of path g) ∷ log)
+hands-find : (past : Past) (by : ℕ) (path : List ℕ) (g : Option ℕ) (log : List Told) → HandsAre past log → HandsAre past (told by (finding path g) ∷ log)
 hands-find past by path g log hands worker n direction h = by_worker (eq_cases by worker)
   where
-    no_call : (asked : Asked) (said : Reply) → find_of path g ≡ Call asked said → ⊥
+    no_call : (asked : Event) (said : Reply) → finding path g ≡ Call asked said → ⊥
     no_call asked said e = cc
 
     by_worker : (by ≡ worker) ⊎ (by ≡ worker → ⊥) → took past.state.pages past.history (record { worker = worker }) direction n ≡ true
     by_worker (inl same) =
-        let own : IsInHand direction n (told_to worker (told worker (find_of path g) ∷ log)) = subst (λ (w : ℕ). IsInHand direction n (told_to worker (told w (find_of path g) ∷ log))) same h in
-        absurd (no_call own.asked (begun_by direction n) (own-last worker n direction (find_of path g) log own))
-    by_worker (inr other) = hands worker n direction (other-last by worker n direction (find_of path g) log other h)
+        let own : IsInHand direction n (told_to worker (told worker (finding path g) ∷ log)) = subst (λ (w : ℕ). IsInHand direction n (told_to worker (told w (finding path g) ∷ log))) same h in
+        absurd (no_call own.asked (begun_by direction n) (own-last worker n direction (finding path g) log own))
+    by_worker (inr other) = hands worker n direction (other-last by worker n direction (finding path g) log other h)
 
 pub hands-finds : (past : Past) (by : ℕ) (tree : List Node) (paths : List (List ℕ)) (log : List Told) → HandsAre past log → HandsAre past (telling by (found_in tree paths) log)
 hands-finds past by tree [] log hands = hands
 hands-finds past by tree (path ∷ paths) log hands =
-    hands-finds past by tree paths (told by (find_of path (find_group tree path)) ∷ log) (hands-find past by path (find_group tree path) log hands)
+    hands-finds past by tree paths (told by (finding path (find_group tree path)) ∷ log) (hands-find past by path (find_group tree path) log hands)
 
-pub hands-call : (opening : Opening) (old new : Past) (caller : Caller) (what : Event) (answered : Answer) (log : List Told) → Legal opening old.history old.state → leaves_entry what ≡ true → Called old caller what (reply_of answered) new → HandsOut new caller.worker answered → HandsAre old log → HandsAre new (told caller.worker (call_of what (reply_of answered)) ∷ log)
+pub hands-call : (opening : Opening) (old new : Past) (caller : Caller) (what : Event) (answered : Answer) (log : List Told) → Legal opening old.history old.state → leaves_entry what ≡ true → Called old caller what (reply_of answered) new → HandsOut new caller.worker answered → HandsAre old log → HandsAre new (told caller.worker (Call what (reply_of answered)) ∷ log)
 hands-call opening old new caller what answered log legal leaves called gives hands worker n direction h = by_worker (eq_cases caller.worker worker)
   where
     own : (e : caller.worker ≡ worker) → reply_of answered ≡ begun_by direction n
     own e =
-        let here : IsInHand direction n (told_to worker (told worker (call_of what (reply_of answered)) ∷ log)) = subst (λ (w : ℕ). IsInHand direction n (told_to worker (told w (call_of what (reply_of answered)) ∷ log))) e h in
-        answers-same (asked_of what) here.asked (reply_of answered) (begun_by direction n) (own-last worker n direction (call_of what (reply_of answered)) log here)
+        let here : IsInHand direction n (told_to worker (told worker (Call what (reply_of answered)) ∷ log)) = subst (λ (w : ℕ). IsInHand direction n (told_to worker (told w (Call what (reply_of answered)) ∷ log))) e h in
+        answers-same what here.asked (reply_of answered) (begun_by direction n) (own-last worker n direction (Call what (reply_of answered)) log here)
 
     own-took : caller.worker ≡ worker → reply_of answered ≡ begun_by direction n → Stands old (reply_of answered) new ⊎ Serves old caller what (reply_of answered) new → took new.state.pages new.history (record { worker = worker }) direction n ≡ true
     own-took e is (inl still) = absurd (not-refused direction n still.why (sym is ∙ still.refused))
@@ -238,8 +240,8 @@ hands-call opening old new caller what answered log legal leaves called gives ha
         ap (λ (b : Bool). b && is_worker worker (taker n new.history)) flies ∙ (ap (λ (w : ℕ). is_worker w (taker n new.history)) (sym e) ∙ taken)
 
     other-took : caller.worker ≢ worker → Stands old (reply_of answered) new ⊎ Serves old caller what (reply_of answered) new → took new.state.pages new.history (record { worker = worker }) direction n ≡ true
-    other-took ne (inl still) = ap (λ (p : Past). took p.state.pages p.history (record { worker = worker }) direction n) still.same ∙ hands worker n direction (other-last caller.worker worker n direction (call_of what (reply_of answered)) log ne h)
-    other-took ne (inr served) = other-stays opening old new caller what (reply_of answered) legal served worker n direction ne (hands worker n direction (other-last caller.worker worker n direction (call_of what (reply_of answered)) log ne h))
+    other-took ne (inl still) = ap (λ (p : Past). took p.state.pages p.history (record { worker = worker }) direction n) still.same ∙ hands worker n direction (other-last caller.worker worker n direction (Call what (reply_of answered)) log ne h)
+    other-took ne (inr served) = other-stays opening old new caller what (reply_of answered) legal served worker n direction ne (hands worker n direction (other-last caller.worker worker n direction (Call what (reply_of answered)) log ne h))
 
     by_worker : (caller.worker ≡ worker) ⊎ (caller.worker ≡ worker → ⊥) → took new.state.pages new.history (record { worker = worker }) direction n ≡ true
     by_worker (inl e) = own-took e (own e) (called-comes old new caller what leaves (reply_of answered) called)
@@ -247,8 +249,8 @@ hands-call opening old new caller what answered log legal leaves called gives ha
 
 -- ---- so no end is a stranger's
 
-pub hand-known : (past : Past) (caller : Caller) (what : Asks) (kept : List Kept) (log : List Told) → kept ≡ told_to caller.worker log → HandsAre past log → HasEvent kept what → knows_pass past.state past.history caller (event_of what) ≡ true
-hand-known past caller what kept log is hands has = by_event what (subst (λ (l : List Kept). HasEvent l what) is has)
+pub hand-known : (past : Past) (caller : Caller) (what : Asks) (exchanges : List Exchange) (log : List Told) → exchanges ≡ told_to caller.worker log → HandsAre past log → HasEvent exchanges what → knows_pass past.state past.history caller (event_of what) ≡ true
+hand-known past caller what exchanges log is hands has = by_event what (subst (λ (l : List Exchange). HasEvent l what) is has)
   where
     by_event : (what : Asks) → HasEvent (told_to caller.worker log) what → knows_pass past.state past.history caller (event_of what) ≡ true
     by_event (event.Arrived ticket) h = hands caller.worker ticket.number In h
@@ -269,12 +271,12 @@ end-known old new caller what none knows called = by_ticket (knows_pass old.stat
     by_ticket true is h = by_room (is_trace_full old what) (subst (λ (cause : Option Refusal). JudgedBy old caller what cause (reply.Refused Stranger) new) none h)
     by_ticket false is h = cc
 
-ending-strange : (old new : Past) (caller : Caller) (what : Event) (said : Reply) → refusal old.state what ≡ None → knows_pass old.state old.history caller what ≡ true → Called old caller what said new → is_strange (Call (asked_of what) said) ≡ false
+ending-strange : (old new : Past) (caller : Caller) (what : Event) (said : Reply) → refusal old.state what ≡ None → knows_pass old.state old.history caller what ≡ true → Called old caller what said new → is_strange (Kept_call (asked_of what) said) ≡ false
 ending-strange old new caller what (reply.Refused Stranger) none knows called = absurd (end-known old new caller what none knows called)
 ending-strange old new caller what (reply.Refused why) none knows called = refl
 ending-strange old new caller what said none knows called = refl
 
-quiet-strange : (asked : Asked) → asks_end asked ≡ false → (said : Reply) → is_strange (Call asked said) ≡ false
+quiet-strange : (asked : Asked) → asks_end asked ≡ false → (said : Reply) → is_strange (Kept_call asked said) ≡ false
 quiet-strange asked none (reply.Refused Stranger) = none
 quiet-strange asked none (reply.Refused why) = refl
 quiet-strange asked none said = refl

@@ -16,8 +16,12 @@ use Rattle.machine.specs.History.{is_by, entries_by}
 use Rattle.machine.specs.Transfers.{begins_transfer, ends_transfer, transfers_begun, transfers_ended}
 use Rattle.book.specs.declared.kept.Kept.{Kept}
 use Rattle.book.specs.declared.kept.Kept.TheVariants.{Call}
-use Rattle.book.specs.Passes.{PassOf, asked_of, call_of, is_entry, count_of}
-use Rattle.live.specs.Matching.{kept_of_entry, told_of, answers_of, AreApart, Matches, begins, asks_end, ends, begun, ended, has_share}
+use Rattle.book.specs.Passes.{asked_of, call_of, is_entry, count_of}
+use Rattle.live.specs.declared.history.Exchange.{Exchange}
+use Rattle.live.specs.Exchanges.{kept_of, stands, entries_in, exchange_of}
+use Rattle.live.specs.Passes.{PassOf}
+use Rattle.live.specs.Matching.{told_of, answers_of, AreApart, Matches, begins, asks_end, ends, begun, ended, has_share}
+use Rattle.live.proofs.ActLemmas.{count-kept}
 
 -- ---- sums
 
@@ -109,8 +113,38 @@ sum-by_passes f (p ∷ ps) es apart all =
 
 -- ---- what a pass keeps, and what its worker was told
 
+abbrev pub IsWhole : PassOf → Type 0
+IsWhole pass = map kept_of pass.exchanges ≡ pass.kept
+
+abbrev kept_of_entry : Entry → Kept
+kept_of_entry entry = call_of entry.event entry.reply
+
+-- its answers that stand in the trace are its worker's, as a pass keeps them
 abbrev IsTold : List Entry → PassOf → Type 0
-IsTold entries pass = answers_of pass.kept ≡ told_of pass.caller.worker entries
+IsTold entries pass = filter is_entry pass.kept ≡ map kept_of_entry (entries_by pass.caller.worker entries)
+
+filter-kept : (exchanges : List Exchange) → filter is_entry (map kept_of exchanges) ≡ map kept_of (answers_of exchanges)
+filter-kept [] = refl
+filter-kept (e ∷ es) =
+    let later = filter-kept es in
+    elim (stands e) as (λ b. cond b (kept_of e ∷ filter is_entry (map kept_of es)) (filter is_entry (map kept_of es)) ≡ map kept_of (cond b (e ∷ answers_of es) (answers_of es))) [
+      | true ↦ ap (λ (l : List Kept). kept_of e ∷ l) later
+      | false ↦ later
+    ]
+
+entries-kept : (entries : List Entry) → map kept_of (map exchange_of entries) ≡ map kept_of_entry entries
+entries-kept [] = refl
+entries-kept (e ∷ es) = ap (λ (l : List Kept). kept_of_entry e ∷ l) (entries-kept es)
+
+told-kept : (entries : List Entry) (pass : PassOf) → IsWhole pass → answers_of pass.exchanges ≡ told_of pass.caller.worker entries → IsTold entries pass
+told-kept entries pass whole same =
+    ap (filter is_entry) (sym whole) ∙ (filter-kept pass.exchanges ∙ (ap (map kept_of) same ∙ entries-kept (entries_by pass.caller.worker entries)))
+
+-- they count as many
+pub sum-kept : (passes : List PassOf) → All IsWhole passes → sum_by (λ (pass : PassOf). entries_in pass.exchanges) passes ≡ sum_by (λ (pass : PassOf). count_of pass.kept) passes
+sum-kept passes whole =
+    sum-same (λ (pass : PassOf). entries_in pass.exchanges) (λ (pass : PassOf). count_of pass.kept) passes
+    (All-weaker IsWhole (λ (pass : PassOf). entries_in pass.exchanges ≡ count_of pass.kept) (λ pass is. sym (count-kept pass.exchanges) ∙ ap count_of is) passes whole)
 
 count-told : (entries : List Entry) (pass : PassOf) → IsTold entries pass → count_of pass.kept ≡ length_of entries pass
 count-told entries pass same =
@@ -169,17 +203,18 @@ ended-told entries pass same =
 -- ---- at rest
 
 -- each pass ended what it began, so nobody has a transfer in flight
-pub at_rest : (entries : List Entry) (passes : List PassOf) → Matches entries passes → length entries ≡ sum_by (λ (pass : PassOf). count_of pass.kept) passes → All (λ (pass : PassOf). has_share pass.kept ≡ false) passes
+pub at_rest : (entries : List Entry) (passes : List PassOf) → All IsWhole passes → Matches entries passes → length entries ≡ sum_by (λ (pass : PassOf). count_of pass.kept) passes → All (λ (pass : PassOf). has_share pass.kept ≡ false) passes
     → transfers_ended (reverse entries) ≤ transfers_begun (reverse entries) → transfers_begun (reverse entries) ≡ transfers_ended (reverse entries)
-at_rest entries passes matches all none before =
+at_rest entries passes whole matches all none before =
+    let told : All (IsTold entries) passes = λ k d lt. told-kept entries (get_or passes k d) (whole k d lt) (matches.same k d lt) in
     let counts : sum_by (λ (pass : PassOf). count_of pass.kept) passes ≡ sum_by (length_of entries) passes =
-    sum-same (λ (pass : PassOf). count_of pass.kept) (length_of entries) passes (All-weaker (IsTold entries) (λ pass. count_of pass.kept ≡ length_of entries pass) (count-told entries) passes matches.same) in
+    sum-same (λ (pass : PassOf). count_of pass.kept) (length_of entries) passes (All-weaker (IsTold entries) (λ pass. count_of pass.kept ≡ length_of entries pass) (count-told entries) passes told) in
     let begins-all = sum-by_passes entry_begins passes entries matches.apart (all ∙ counts) in
     let ends-all = sum-by_passes entry_ends passes entries matches.apart (all ∙ counts) in
     let begun-all : sum_by (λ (pass : PassOf). begun pass.kept) passes ≡ sum_by (sum_of entry_begins entries) passes =
-    sum-same (λ (pass : PassOf). begun pass.kept) (sum_of entry_begins entries) passes (All-weaker (IsTold entries) (λ pass. begun pass.kept ≡ sum_of entry_begins entries pass) (begun-told entries) passes matches.same) in
+    sum-same (λ (pass : PassOf). begun pass.kept) (sum_of entry_begins entries) passes (All-weaker (IsTold entries) (λ pass. begun pass.kept ≡ sum_of entry_begins entries pass) (begun-told entries) passes told) in
     let ended-all : sum_by (λ (pass : PassOf). ended pass.kept) passes ≤ sum_by (sum_of entry_ends entries) passes =
-    sum-less (λ (pass : PassOf). ended pass.kept) (sum_of entry_ends entries) passes (All-weaker (IsTold entries) (λ pass. ended pass.kept ≤ sum_of entry_ends entries pass) (ended-told entries) passes matches.same) in
+    sum-less (λ (pass : PassOf). ended pass.kept) (sum_of entry_ends entries) passes (All-weaker (IsTold entries) (λ pass. ended pass.kept ≤ sum_of entry_ends entries pass) (ended-told entries) passes told) in
     let rest : sum_by (λ (pass : PassOf). begun pass.kept) passes ≤ sum_by (λ (pass : PassOf). ended pass.kept) passes =
     sum-less (λ (pass : PassOf). begun pass.kept) (λ (pass : PassOf). ended pass.kept) passes (All-weaker (λ pass. has_share pass.kept ≡ false) (λ pass. begun pass.kept ≤ ended pass.kept) (λ pass less. ltb-false (ended pass.kept) (begun pass.kept) less) passes none) in
     let begins-back = sum-reverse entry_begins entries in

@@ -6,8 +6,9 @@ use Rattle.machine.specs.declared.command.Actor.{Actor}
 use Rattle.machine.specs.declared.command.Command.{Command}
 use Rattle.machine.specs.declared.command.Reply.{Reply as Told_by}
 use Rattle.machine.specs.Tree.{Node, find_group}
-use Rattle.book.specs.declared.kept.Kept.{Kept}
 use Rattle.book.specs.Passes.{PassOf, find_of, keeping}
+use Rattle.live.specs.declared.history.Exchange.{Exchange}
+use Rattle.live.specs.Exchanges.{kept_of}
 use Rattle.turns.specs.declared.turn.Stage.{Stage}
 use Rattle.turns.specs.declared.turn.Transition.{Transition}
 use Rattle.turns.specs.Turns.{Judged, paths_of, judged, answer_by}
@@ -20,10 +21,10 @@ use Rattle.live.specs.Runs.{Made, Linked, Closed, Under, Ran, Looked, Judging, D
 joins : {A : Type 0} (a b c x y : List A) → b ≡ a ++ x → c ≡ b ++ y → c ≡ a ++ (x ++ y)
 joins a b c x y one two = two ∙ (ap (λ l. l ++ y) one ∙ append_assoc a x y)
 
-pub under_none : (marks : Watermarks) (who : Actor) (start : Stage) (kept : List Kept) (told : List Told_by) → Under marks who start kept kept told told start
+pub under_none : (marks : Watermarks) (who : Actor) (start : Stage) (kept : List Exchange) (told : List Told_by) → Under marks who start kept kept told told start
 under_none marks who start kept told = record { row = []; added = []; said = []; keeps = sym (append-nil kept); tells = sym (append-nil told); leads = (refl, refl, refl) }
 
-pub under_more : (marks : Watermarks) (who : Actor) (start : Stage) (k0 k1 k2 : List Kept) (t0 t1 t2 : List Told_by) (mid next : Stage)
+pub under_more : (marks : Watermarks) (who : Actor) (start : Stage) (k0 k1 k2 : List Exchange) (t0 t1 t2 : List Told_by) (mid next : Stage)
     → Under marks who start k0 k1 t0 t1 mid → Linked marks who mid k1 k2 t1 t2 next → Under marks who start k0 k2 t0 t2 next
 under_more marks who start k0 k1 k2 t0 t1 t2 mid next u l = record {
   row = mid ∷ u.row;
@@ -34,7 +35,7 @@ under_more marks who start k0 k1 k2 t0 t1 t2 mid next u l = record {
   leads = (u.added, l.added, u.said, l.said, u.leads, l.link, refl, refl);
 }
 
-pub under_closed : (marks : Watermarks) (who : Actor) (start : Stage) (k0 k1 k2 : List Kept) (t0 t1 t2 : List Told_by) (mid : Stage)
+pub under_closed : (marks : Watermarks) (who : Actor) (start : Stage) (k0 k1 k2 : List Exchange) (t0 t1 t2 : List Told_by) (mid : Stage)
     → Under marks who start k0 k1 t0 t1 mid → Closed marks who mid k1 k2 t1 t2 → Ran marks who start k0 k2 t0 t2
 under_closed marks who start k0 k1 k2 t0 t1 t2 mid u l = record {
   added = u.added ++ l.added;
@@ -50,28 +51,28 @@ finds-length : (tree : List Node) (paths : List (List ℕ)) → length (map (fin
 finds-length tree [] = refl
 finds-length tree (path ∷ paths) = ap suc (finds-length tree paths)
 
-pub looking-kept : (tree : List Node) (paths : List (List ℕ)) (pass : PassOf) → (looking tree paths pass).kept ≡ pass.kept ++ finds_of paths (map (find_group tree) paths)
+pub looking-kept : (tree : List Node) (paths : List (List ℕ)) (pass : PassOf) → (looking tree paths pass).kept ≡ pass.kept ++ map kept_of (finds_of paths (map (find_group tree) paths))
 looking-kept tree [] pass = sym (append-nil pass.kept)
 looking-kept tree (path ∷ paths) pass =
     let here = find_of path (find_group tree path) in
-    looking-kept tree paths (keeping pass here) ∙ append_assoc pass.kept (here ∷ []) (finds_of paths (map (find_group tree) paths))
+    looking-kept tree paths (keeping pass here) ∙ append_assoc pass.kept (here ∷ []) (map kept_of (finds_of paths (map (find_group tree) paths)))
 
 pub looking-caller : (tree : List Node) (paths : List (List ℕ)) (pass : PassOf) → (looking tree paths pass).caller ≡ pass.caller
 looking-caller tree [] pass = refl
 looking-caller tree (path ∷ paths) pass = looking-caller tree paths (keeping pass (find_of path (find_group tree path)))
 
-pub looked : (tree : List Node) (who : Actor) (what : Command) (old new : PassOf) (result : Judged) → new ≡ looking tree (paths_of who what) old → result ≡ judged tree who what → Looked who what old.kept new.kept result
+pub looked : (tree : List Node) (who : Actor) (what : Command) (old new : List Exchange) (result : Judged) → new ≡ old ++ finds_of (paths_of who what) (map (find_group tree) (paths_of who what)) → result ≡ judged tree who what → Looked who what old new result
 looked tree who what old new result goes is = record {
   found = map (find_group tree) (paths_of who what);
   each = finds-length tree (paths_of who what);
-  keeps = ap (λ (p : PassOf). p.kept) goes ∙ looking-kept tree (paths_of who what) old;
+  keeps = goes;
   is = is;
 }
 
 -- ---- commands
 
 -- a command: refused when it was judged, or run, or memory was wanted at once
-pub did_none : (marks : Watermarks) (who : Actor) (what : Command) (k k' : List Kept) (t t' : List Told_by) → k' ≡ k → t' ≡ t ++ answer_by who no_memory → Did marks who what k k' t t'
+pub did_none : (marks : Watermarks) (who : Actor) (what : Command) (k k' : List Exchange) (t t' : List Told_by) → k' ≡ k → t' ≡ t ++ answer_by who no_memory → Did marks who what k k' t t'
 did_none marks who what k k' t t' keeps tells = record {
   added = [];
   said = answer_by who no_memory;
@@ -80,7 +81,7 @@ did_none marks who what k k' t t' keeps tells = record {
   does = inr (refl, refl);
 }
 
-pub did_judged : (marks : Watermarks) (who : Actor) (what : Command) (k0 k1 k2 : List Kept) (t t' : List Told_by) (result : Judged)
+pub did_judged : (marks : Watermarks) (who : Actor) (what : Command) (k0 k1 k2 : List Exchange) (t t' : List Told_by) (result : Judged)
     → Looked who what k0 k1 result → Judging marks who result k1 k2 t t' → Did marks who what k0 k2 t t'
 did_judged marks who what k0 k1 k2 t t' result j r = record {
   added = finds_of (paths_of who what) j.found ++ r.added;
@@ -91,7 +92,7 @@ did_judged marks who what k0 k1 k2 t t' result j r = record {
 }
 
 -- one command more
-works_more : (marks : Watermarks) (who : Actor) (cs : List Command) (what : Command) (added here : List Kept) (said now : List Told_by)
+works_more : (marks : Watermarks) (who : Actor) (cs : List Command) (what : Command) (added here : List Exchange) (said now : List Told_by)
     → Works marks who cs added said → Does marks who what here now → Works marks who (cs ++ what ∷ []) (added ++ here) (said ++ now)
 works_more marks who [] what added here said now h d =
     (here, [], now, [], d, (refl, refl), ap (λ l. l ++ here) h.0 ∙ sym (append-nil here), ap (λ l. l ++ now) h.1 ∙ sym (append-nil now))
@@ -106,10 +107,10 @@ works_more marks who (c ∷ cs) what added here said now h d = (
   ap (λ l. l ++ now) h.7 ∙ append_assoc h.2 h.3 now,
 )
 
-pub worked_none : (marks : Watermarks) (who : Actor) (k : List Kept) → Worked marks who [] k k []
+pub worked_none : (marks : Watermarks) (who : Actor) (k : List Exchange) → Worked marks who [] k k []
 worked_none marks who k = record { added = []; keeps = sym (append-nil k); works = (refl, refl) }
 
-pub worked_more : (marks : Watermarks) (who : Actor) (cs : List Command) (what : Command) (k0 k1 k2 : List Kept) (t1 t2 : List Told_by)
+pub worked_more : (marks : Watermarks) (who : Actor) (cs : List Command) (what : Command) (k0 k1 k2 : List Exchange) (t1 t2 : List Told_by)
     → Worked marks who cs k0 k1 t1 → Did marks who what k1 k2 t1 t2 → Worked marks who (cs ++ what ∷ []) k0 k2 t2
 worked_more marks who cs what k0 k1 k2 t1 t2 w d = record {
   added = w.added ++ d.added;
@@ -118,7 +119,7 @@ worked_more marks who cs what k0 k1 k2 t1 t2 w d = record {
 }
 
 -- a turn after which the command goes on
-pub linked : (marks : Watermarks) (who : Actor) (stage next : Stage) (transition : Transition) (k0 k1 k2 : List Kept) (t0 t1 said : List Told_by)
+pub linked : (marks : Watermarks) (who : Actor) (stage next : Stage) (transition : Transition) (k0 k1 k2 : List Exchange) (t0 t1 said : List Told_by)
     → k1 ≡ k0 → Made marks stage k1 k2 transition → GoesOn who transition said next → t1 ≡ t0 ++ said → Linked marks who stage k0 k2 t0 t1 next
 linked marks who stage next transition k0 k1 k2 t0 t1 said same m goes tells = record {
   added = m.added;
@@ -129,7 +130,7 @@ linked marks who stage next transition k0 k1 k2 t0 t1 said same m goes tells = r
 }
 
 -- memory is refused where no ticket is in hand
-pub closed_none : (marks : Watermarks) (who : Actor) (stage : Stage) (k0 k1 : List Kept) (t0 t1 t2 : List Told_by) → k1 ≡ k0 → t1 ≡ t0 → t2 ≡ t1 ++ answer_by who no_memory → holds stage ≡ false → Closed marks who stage k0 k1 t0 t2
+pub closed_none : (marks : Watermarks) (who : Actor) (stage : Stage) (k0 k1 : List Exchange) (t0 t1 t2 : List Told_by) → k1 ≡ k0 → t1 ≡ t0 → t2 ≡ t1 ++ answer_by who no_memory → holds stage ≡ false → Closed marks who stage k0 k1 t0 t2
 closed_none marks who stage k0 k1 t0 t1 t2 same told tells none = record {
   added = [];
   what = no_memory;
@@ -143,10 +144,10 @@ pub taken : {A : Type 0} (xs : List A) (i : ℕ) (x : A) → i < length xs → x
 taken xs i x lt is = take_more xs i x lt ∙ ap (λ y. take i xs ++ y ∷ []) (sym is)
 
 -- one run more
-pub repeated_none : (marks : Watermarks) (who : Actor) (what : Command) (k : List Kept) → Repeated marks who what k k
+pub repeated_none : (marks : Watermarks) (who : Actor) (what : Command) (k : List Exchange) → Repeated marks who what k k
 repeated_none marks who what k = record { row = []; added = []; keeps = sym (append-nil k); repeats = refl }
 
-pub repeated_more : (marks : Watermarks) (who : Actor) (what : Command) (k0 k1 k2 : List Kept) → Repeated marks who what k0 k1 → Done marks who what k1 k2 → Repeated marks who what k0 k2
+pub repeated_more : (marks : Watermarks) (who : Actor) (what : Command) (k0 k1 k2 : List Exchange) → Repeated marks who what k0 k1 → Done marks who what k1 k2 → Repeated marks who what k0 k2
 repeated_more marks who what k0 k1 k2 r d = record {
   row = d.added ∷ r.row;
   added = r.added ++ d.added;
@@ -154,5 +155,5 @@ repeated_more marks who what k0 k1 k2 r d = record {
   repeats = (r.added, d.said, r.repeats, d.does, refl);
 }
 
-pub done_none : (marks : Watermarks) (who : Actor) (what : Command) (k k' : List Kept) → k' ≡ k → Done marks who what k k'
+pub done_none : (marks : Watermarks) (who : Actor) (what : Command) (k k' : List Exchange) → k' ≡ k → Done marks who what k k'
 done_none marks who what k k' same = record { added = []; said = answer_by who no_memory; keeps = same ∙ sym (append-nil k); does = inr (refl, refl) }

@@ -1,23 +1,23 @@
 -- Each step keeps what holds of all seats.
-use Rattle.std.proofs.Common.{◌≡◌, ◌≢◌, ℕ, zero, suc, ◌+◌, ◌<◌, ◌≤◌, ◌==◌, ◌⊎◌, inl, inr, ⊎_elim, Bool, true, false, List, [], ◌∷◌, ◌++◌, length, drop, set, sym, refl, ap, ◌∙◌, subst, arith, length-append}
+use Rattle.std.proofs.Common.{◌≡◌, ◌≢◌, ℕ, zero, suc, ◌+◌, ◌<◌, ◌≤◌, ◌==◌, ◌⊎◌, inl, inr, ⊎_elim, Bool, true, false, List, [], ◌∷◌, ◌++◌, length, set, sym, refl, ap, ◌∙◌, subst, arith, length-append}
 use Rattle.std.specs.Prelude.{nat_lt, if◌then◌else◌}
 use Rattle.std.specs.List.{sum_by}
 use Rattle.std.proofs.lemmas.Bool.{cases_lt}
 use Rattle.std.proofs.lemmas.Bool.Decides.{nat_tests}
 use Rattle.std.proofs.lemmas.List.Sums.{sum_by-cons, sum_by-append}
-use Rattle.std.proofs.Math.Seq.{drop-append_seam}
 use mathlib.Core.Option.{none, some, some-injective, some-ne-none}
 use prog.Atomic.{either}
 use lib.ListN.{get_elem?}
 use Rattle.atomic_table.specs.Table.{opening, step, keeps, Allows, Splits, Joins}
 use Rattle.atomic_table.proofs.Lists.{at_set, at_snoc, set_again}
 use Rattle.book.specs.Passes.{PassOf}
-use Rattle.book.specs.declared.kept.Kept.{Kept}
+use Rattle.live.specs.declared.history.Exchange.{Exchange}
+use Rattle.machine.specs.declared.event.Event.{Event}
 use Rattle.live.specs.declared.history.Told.{Told}
 use Rattle.live.specs.declared.history.Row.{Row}
 use Rattle.live.specs.declared.history.View.{View}
 use Rattle.live.specs.Told.{told_to, telling}
-use Rattle.live.specs.Rules.{Sitting, Seated, row, blank, of_worker, of_roll, of_book, first_view, without_rows, rows_alone, without_roll, roll_alone, joined, AreRows, HavePasses, Knows, times_in, times_of, rows_of, weight_in, weight_of, weight_told, books_of, rolls_of, within, IsKept, kept_in, noted, Notes, one_more, GivesOut, IsAll, Learns}
+use Rattle.live.specs.Rules.{Sitting, Seated, row, blank, of_worker, of_roll, of_book, first_view, without_rows, rows_alone, without_roll, roll_alone, joined, AreRows, HavePasses, Knows, times_in, times_of, rows_of, weight_in, weight_of, weight_told, books_of, rolls_of, within, IsKept, exchanges_in, new_of, noted, Notes, one_more, GivesOut, IsAll, Learns}
 use Rattle.live.proofs.ViewLemmas.{sum_by-set, sum_by-split, sum_by-join, part_of, two_of, only_one}
 use Rattle.live.proofs.ToldLemmas.{telling-own, telling-other, telling-weight, rows-append, times-append, times-own, times-other, rows-on, rows-given, weight-append}
 
@@ -156,7 +156,7 @@ module _ (s : Sitting) (k : IsKept s) (id : ℕ) (v : View) (at : get_elem? s.vi
 
 -- ---- a worker was told more
 
-module _ (s : Sitting) (k : IsKept s) (id : ℕ) (v : View) (at : get_elem? s.views id ≡ some v) (one : v.books ≡ 1) (worker : ℕ) (old more kept : List Kept) (rows : v.rows ≡ row worker old ∷ []) (all : kept ≡ old ++ more) where
+module _ (s : Sitting) (k : IsKept s) (id : ℕ) (v : View) (at : get_elem? s.views id ≡ some v) (one : v.books ≡ 1) (worker : ℕ) (old more kept : List Exchange) (rows : v.rows ≡ row worker old ∷ []) (all : kept ≡ old ++ more) where
   abbrev after : View
   after = record v { log = telling worker more v.log; rows = row worker kept ∷ [] }
 
@@ -194,7 +194,7 @@ module _ (s : Sitting) (k : IsKept s) (id : ℕ) (v : View) (at : get_elem? s.vi
         book = λ some_book. (ap (telling worker more) (its-log s k id v at one), its-given s k id v at one);
         roll = knows.roll;
         none = knows.none;
-        rows = (all ∙ (ap (λ (l : List Kept). l ++ more) was ∙ sym (telling-own worker more k.log)), tt);
+        rows = (all ∙ (ap (λ (l : List Exchange). l ++ more) was ∙ sym (telling-own worker more k.log)), tt);
       }
 
   -- the same workers
@@ -204,10 +204,10 @@ module _ (s : Sitting) (k : IsKept s) (id : ℕ) (v : View) (at : get_elem? s.vi
   same-rows : rows_of v ≡ 1
   same-rows = ap length rows
 
-  more-weight : (h : Kept → ℕ) → weight_in h (row worker kept ∷ []) ≡ weight_of h v + sum_by h more
+  more-weight : (h : Exchange → ℕ) → weight_in h (row worker kept ∷ []) ≡ weight_of h v + sum_by h more
   more-weight h =
-      let here = sum_by-cons (λ (r : Row). sum_by h r.kept) (row worker kept) [] in
-      let there = sum_by-cons (λ (r : Row). sum_by h r.kept) (row worker old) [] in
+      let here = sum_by-cons (λ (r : Row). sum_by h r.exchanges) (row worker kept) [] in
+      let there = sum_by-cons (λ (r : Row). sum_by h r.exchanges) (row worker old) [] in
       let sum = ap (sum_by h) all ∙ sum_by-append h old more in
       omega (arith, ap (weight_in h) rows, here, there, sum)
 
@@ -224,24 +224,23 @@ module _ (s : Sitting) (k : IsKept s) (id : ℕ) (v : View) (at : get_elem? s.vi
     weight = λ h. omega (arith, sum_by-set (weight_of h) s.views id v after at, k.weight h, more-weight h, telling-weight h worker more k.log);
   }
 
-  noted-after : (pass : PassOf) → pass.caller.worker ≡ worker → pass.kept ≡ kept → noted (some pass) v ≡ after
-  noted-after pass is same =
-      let more-is : drop (length (kept_in v.rows)) pass.kept ≡ more =
-      ap (λ (l : List Kept). drop (length l) pass.kept) (ap kept_in rows) ∙ (ap (drop (length old)) (same ∙ all) ∙ drop-append_seam old more) in
-      ap (λ (l : List Kept). record v { log = telling pass.caller.worker l v.log; rows = row pass.caller.worker pass.kept ∷ [] }) more-is
-      ∙ (ap (λ (l : List Kept). record v { log = telling pass.caller.worker more v.log; rows = row pass.caller.worker l ∷ [] }) same
-      ∙ ap (λ (n : ℕ). record v { log = telling n more v.log; rows = row n kept ∷ [] }) is)
+-- what its pass says of it
+noted-as : (asked : List Event) (pass : PassOf) (v : View) (old : List Exchange) → v.rows ≡ row pass.caller.worker old ∷ []
+    → noted asked (some pass) v ≡ record v { log = telling pass.caller.worker (new_of asked old pass.kept) v.log; rows = row pass.caller.worker (old ++ new_of asked old pass.kept) ∷ [] }
+noted-as asked pass v old rows =
+    ap (λ (l : List Exchange). record v { log = telling pass.caller.worker (new_of asked l pass.kept) v.log; rows = row pass.caller.worker (l ++ new_of asked l pass.kept) ∷ [] }) (ap exchanges_in rows)
 
-pub note_allowed : (slots id : ℕ) (me : Seated) (pass : PassOf) (old more : List Kept) → me.0.books ≡ 1 → me.0.rows ≡ row pass.caller.worker old ∷ [] → pass.kept ≡ old ++ more
-    → Allows IsKept slots id me 0 (λ n. either (n == 0) 0 n) (Notes (step slots 0 0 0 (some pass)) me)
-note_allowed slots id me pass old more one rows all s k _ at small =
-    let new = after s k id me.0 at one pass.caller.worker old more pass.kept rows all in (
+pub note_allowed : (slots id : ℕ) (me : Seated) (asked : List Event) (pass : PassOf) (old : List Exchange) → me.0.books ≡ 1 → me.0.rows ≡ row pass.caller.worker old ∷ []
+    → Allows IsKept slots id me 0 (λ n. either (n == 0) 0 n) (Notes asked (step slots 0 0 0 (some pass)) me)
+note_allowed slots id me asked pass old one rows s k _ at small =
+    let more = new_of asked old pass.kept in
+    let new = after s k id me.0 at one pass.caller.worker old more (old ++ more) rows refl in (
       new,
       keeps,
       tt,
-      keeps_rule s k id me.0 at one pass.caller.worker old more pass.kept rows all _,
+      keeps_rule s k id me.0 at one pass.caller.worker old more (old ++ more) rows refl _,
       (
-        ap (λ (x : View). (x, me.1)) (sym (noted-after s k id me.0 at one pass.caller.worker old more pass.kept rows all pass refl refl)),
+        ap (λ (x : View). (x, me.1)) (sym (noted-as asked pass me.0 old rows)),
         its-rows s k id me.0 at one,
         its-workers s k id me.0 at one,
       ),
@@ -288,8 +287,8 @@ module _ (s : Sitting) (k : IsKept s) (id : ℕ) (v : View) (at : get_elem? s.vi
   times-on : (worker : ℕ) → times_of worker (one_more v) + within worker k.given ≡ times_of worker v + within worker (k.given + 1)
   times-on worker = subst (λ (n : ℕ). times_of worker (one_more v) + within worker n ≡ times_of worker v + within worker (n + 1)) count-is (times-row v.given worker v.rows)
 
-  weight-same : (h : Kept → ℕ) → weight_of h (one_more v) ≡ weight_of h v
-  weight-same h = omega (arith, sum_by-cons (λ (r : Row). sum_by h r.kept) (row v.given []) v.rows)
+  weight-same : (h : Exchange → ℕ) → weight_of h (one_more v) ≡ weight_of h v
+  weight-same h = omega (arith, sum_by-cons (λ (r : Row). sum_by h r.exchanges) (row v.given []) v.rows)
 
   gives_rule : (words : List ℕ) → IsKept (record { words = words; homes = s.homes; views = set s.views id (one_more v) })
   gives_rule words = record {
@@ -304,7 +303,7 @@ module _ (s : Sitting) (k : IsKept s) (id : ℕ) (v : View) (at : get_elem? s.vi
     weight = λ h. omega (arith, sum_by-set (weight_of h) s.views id v (one_more v) at, k.weight h, weight-same h);
   }
 
-  no_rows : (h : Kept → ℕ) (u : View) → rows_of u ≡ 0 → weight_of h u ≡ 0
+  no_rows : (h : Exchange → ℕ) (u : View) → rows_of u ≡ 0 → weight_of h u ≡ 0
   no_rows h u empty = by u.rows empty
     where
       by : (rows : List Row) → length rows ≡ 0 → weight_in h rows ≡ 0
@@ -358,5 +357,5 @@ pub with_roll : (v r w : View) (given count : ℕ) (log : List Told) → v ≡ o
 with_roll v r w given count log v-is r-is w-is = w-is ∙ (ap (λ (x : View). joined x (roll_alone r)) v-is ∙ ap (λ (x : View). joined (of_book given log) (roll_alone x)) r-is)
 
 -- the book's seat with a worker's
-pub with_worker : (v r w : View) (given worker : ℕ) (log : List Told) (kept : List Kept) → v ≡ of_book given log → r ≡ of_worker worker kept → w ≡ joined v (rows_alone r) → w ≡ record { books = 1; rolls = 0; given = given; rolled = 0; log = log; rows = row worker kept ∷ [] }
+pub with_worker : (v r w : View) (given worker : ℕ) (log : List Told) (kept : List Exchange) → v ≡ of_book given log → r ≡ of_worker worker kept → w ≡ joined v (rows_alone r) → w ≡ record { books = 1; rolls = 0; given = given; rolled = 0; log = log; rows = row worker kept ∷ [] }
 with_worker v r w given worker log kept v-is r-is w-is = w-is ∙ (ap (λ (x : View). joined x (rows_alone r)) v-is ∙ ap (λ (x : View). joined (of_book given log) (rows_alone x)) r-is)

@@ -1,5 +1,5 @@
 -- What a call adds to a pass's share.
-use Rattle.std.proofs.Common.{◌≡◌, ℕ, ◌+◌, ◌≤◌, Bool, true, false, List, [], ◌∷◌, ◌++◌, refl, sym, ap, ◌∙◌, arith, subst, Option}
+use Rattle.std.proofs.Common.{◌≡◌, ℕ, ◌+◌, ◌≤◌, Bool, true, false, List, [], ◌∷◌, ◌++◌, map, refl, sym, ap, ◌∙◌, arith, subst, Option}
 use Rattle.std.specs.Prelude.{count_by}
 use Rattle.std.proofs.lemmas.Bool.Decides.{nat_tests}
 use Rattle.std.proofs.lemmas.List.Sums.{sum_by-append, sum_by-cons}
@@ -18,13 +18,10 @@ use Rattle.book.specs.declared.kept.Kept.{Kept}
 use Rattle.book.specs.declared.kept.Kept.TheVariants.{Call}
 use Rattle.book.specs.Events.{event_of, reply_of}
 use Rattle.book.specs.Passes.{asked_of, call_of, find_of}
+use Rattle.live.specs.Exchanges.{kept_of}
 use Rattle.book.specs.Replies.{Replies, IsInReply, IsOutReply}
 use Rattle.turns.specs.Tickets.{is_ending, gives_ticket}
-use Rattle.turns.specs.Turns.{Judged, paths_of}
-use Rattle.machine.specs.declared.command.Actor.{Actor}
-use Rattle.machine.specs.declared.command.Command.{Command}
 use Rattle.live.specs.Works.{finds_of}
-use Rattle.live.specs.Runs.{Looked}
 use Rattle.live.specs.Matching.{asks_end, begins, ends, begun, ended, has_share}
 use Rattle.live.specs.Shares.{is_strange, strange, KeepsShare, one_if, Carries}
 
@@ -124,25 +121,32 @@ carries-call old new what answered keeps r =
     record { balance = omega (arith, one, two, three, four) }
 
 -- a path that was looked up is no part of a share
-finds-none : (f : Kept → Bool) → ((path : List ℕ) (g : Option ℕ) → f (find_of path g) ≡ false) → (paths : List (List ℕ)) (found : List (Option ℕ)) → count_by f (finds_of paths found) ≡ 0
+finds-none : (f : Kept → Bool) → ((path : List ℕ) (g : Option ℕ) → f (find_of path g) ≡ false) → (paths : List (List ℕ)) (found : List (Option ℕ)) → count_by f (map kept_of (finds_of paths found)) ≡ 0
 finds-none f none [] found = refl
 finds-none f none (path ∷ paths) [] = refl
 finds-none f none (path ∷ paths) (g ∷ found) =
     let here = one-alone f (find_of path g) ∙ ap one_if (none path g) in
     let rest = finds-none f none paths found in
-    let both = more f (find_of path g ∷ []) (finds_of paths found) in
+    let both = more f (find_of path g ∷ []) (map kept_of (finds_of paths found)) in
     omega (arith, here, rest, both)
 
-pub carries-looked : (who : Actor) (what : Command) (old new : List Kept) (result : Judged) → Looked who what old new result → Carries old 0 new 0
-carries-looked who what old new result h =
-    let added = finds_of (paths_of who what) h.found in
-    let none-b = finds-none begins (λ path g. refl) (paths_of who what) h.found in
-    let none-e = finds-none ends (λ path g. refl) (paths_of who what) h.found in
-    let none-s = finds-none is_strange (λ path g. refl) (paths_of who what) h.found in
-    let one = ap begun h.keeps ∙ more begins old added in
-    let two = ap ended h.keeps ∙ more ends old added in
-    let three = ap strange h.keeps ∙ more is_strange old added in
+pub carries-looked : (paths : List (List ℕ)) (found : List (Option ℕ)) (old new : List Kept) → new ≡ old ++ map kept_of (finds_of paths found) → Carries old 0 new 0
+carries-looked paths found old new keeps =
+    let added = map kept_of (finds_of paths found) in
+    let none-b = finds-none begins (λ path g. refl) paths found in
+    let none-e = finds-none ends (λ path g. refl) paths found in
+    let none-s = finds-none is_strange (λ path g. refl) paths found in
+    let one = ap begun keeps ∙ more begins old added in
+    let two = ap ended keeps ∙ more ends old added in
+    let three = ap strange keeps ∙ more is_strange old added in
     record { balance = omega (arith, one, two, three, none-b, none-e, none-s) }
+
+-- so there is no strange one among them
+pub looked-strange : (paths : List (List ℕ)) (found : List (Option ℕ)) (old new : List Kept) → new ≡ old ++ map kept_of (finds_of paths found) → strange old ≡ 0 → strange new ≡ 0
+looked-strange paths found old new keeps none =
+    let here = finds-none is_strange (λ path g. refl) paths found in
+    let all = ap strange keeps ∙ more is_strange old (map kept_of (finds_of paths found)) in
+    omega (arith, all, here, none)
 
 pub carries-both : (a b c : List Kept) (i j k : ℕ) → Carries a i b j → Carries b j c k → Carries a i c k
 carries-both a b c i j k one two = record { balance = omega (arith, one.balance, two.balance) }

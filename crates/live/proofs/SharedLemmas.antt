@@ -1,6 +1,7 @@
 -- What lies under the lock goes on to hold together.
-use Rattle.std.proofs.Common.{◌≡◌, ℕ, ◌+◌, ◌<◌, Bool, true, false, List, [], ◌∷◌, ◌++◌, length, drop, sym, refl, ap, ◌∙◌, subst, arith}
+use Rattle.std.proofs.Common.{◌≡◌, ℕ, ◌+◌, ◌<◌, Bool, true, false, List, [], ◌∷◌, ◌++◌, map, length, drop, Option, sym, refl, ap, ◌∙◌, subst, arith}
 use Rattle.std.specs.Prelude.{MatchBool, Result, Ok, Err, OnOk, OnErr}
+use Rattle.std.proofs.lemmas.List.{length-map, map-append}
 use Rattle.std.proofs.Math.Seq.{drop-append_seam}
 use Rattle.atomic_table.specs.Seated.{TableId}
 use Rattle.machine.specs.declared.entry.Entry.{Entry}
@@ -9,7 +10,7 @@ use Rattle.machine.specs.declared.event.Event.TheVariants as plain
 use Rattle.machine.specs.declared.reply.Reply.{Reply}
 use Rattle.machine.specs.declared.reply.Reply.TheVariants as said
 use Rattle.machine.specs.declared.refusal.Refusal.TheVariants.{Stranger, TraceFull}
-use Rattle.machine.specs.Tree.{find_group}
+use Rattle.machine.specs.Tree.{Node, find_group}
 use Rattle.machine.specs.State.{Opening, State}
 use Rattle.machine.specs.Call.{Past, Caller, first_past, leaves_entry, is_trace_full, Refuses, Answered, Called}
 use Rattle.machine.specs.Legal.{Legal}
@@ -19,9 +20,15 @@ use Rattle.book.specs.declared.event.Reply.{Reply as Answer}
 use Rattle.book.specs.declared.event.Reply.TheVariants as answer
 use Rattle.book.specs.Events.{reply_of}
 use Rattle.book.specs.Replies.{IsAlwaysOk, HandsOut}
-use Rattle.book.specs.Passes.{PassOf, call_of, find_of, is_current, CalledWith}
+use Rattle.book.specs.Passes.{PassOf, call_of, keeping, is_current, CalledWith}
 use Rattle.book.proofs.PassLemmas.{may_ask-current}
+use Rattle.live.specs.declared.history.Exchange.{Exchange}
+use Rattle.live.specs.declared.history.Exchange.TheVariants.{Call}
 use Rattle.live.specs.declared.history.Told.{Told}
+use Rattle.live.specs.Exchanges.{kept_of, finding}
+use Rattle.live.specs.Passes.{pass_of, answering}
+use Rattle.live.specs.Rules.{Seated, of_worker, exchanges_in, exchanges_of, new_of}
+use Rattle.live.specs.Works.{finds_of}
 use Rattle.live.specs.Told.{told, told_to, telling}
 use Rattle.live.specs.Logs.{LogOf}
 use Rattle.live.specs.Hands.{HandsAre}
@@ -91,9 +98,9 @@ module _ (table : TableId) (opening : Opening) (past : Past) (log : LogOf) (shar
 
   -- ---- a call
 
-  module _ (pass : PassOf) (kept : pass.kept ≡ told_to pass.caller.worker log.log) (lt : pass.caller.worker < log.given) where
+  module _ (pass : PassOf) (exchanges : List Exchange) (whole : map kept_of exchanges ≡ pass.kept) (known : exchanges ≡ told_to pass.caller.worker log.log) (lt : pass.caller.worker < log.given) where
     current : is_current past pass ≡ true
-    current = current-trace opening shared.acts past pass shared.leads (kept ∙ ap (told_to pass.caller.worker) (sym shared.told_is)) (let is = shared.given in omega (arith, lt, is))
+    current = current-trace opening shared.acts past pass exchanges shared.leads whole (known ∙ ap (told_to pass.caller.worker) (sym shared.told_is)) (let is = shared.given in omega (arith, lt, is))
 
     pub called-so : (what : Event) (reply : Reply) (new : Past) → CalledWith past pass what reply new → Called past pass.caller what reply new
     called-so what reply new h = subst (λ (b : Bool). MatchBool b (Called past pass.caller what reply new) (Refuses past Stranger reply new)) (may_ask-current past pass what current) h
@@ -102,31 +109,31 @@ module _ (table : TableId) (opening : Opening) (past : Past) (log : LogOf) (shar
     opened-so what reply new h = called_opening past new pass.caller what reply (called-so what reply new h)
 
     pub shared-call : (what : Event) (answered : Answer) (new : Past) (next : LogOf) → leaves_entry what ≡ true → CalledWith past pass what (reply_of answered) new → new.passes ≡ past.passes
-        → next ≡ record log { log = told pass.caller.worker (call_of what (reply_of answered)) ∷ log.log }
+        → next ≡ record log { log = told pass.caller.worker (Call what (reply_of answered)) ∷ log.log }
         → Legal opening past.history past.state → HandsOut new pass.caller.worker answered → IsShared table opening new next
     shared-call what answered new next leaves h passes is legal gives = let reply = reply_of answered in record {
       of = ap (λ (l : LogOf). l.table) is ∙ shared.of;
       opened = opened-so what reply new h ∙ shared.opened;
       given = ap (λ (l : LogOf). l.given) is ∙ (shared.given ∙ sym passes);
-      acts = Tells pass.caller.worker (call_of what reply) ∷ shared.acts;
-      leads = (past, shared.leads, (what, refl, leaves, called-so what reply new h));
-      told_is = ap (λ (l : List Told). told pass.caller.worker (call_of what reply) ∷ l) shared.told_is ∙ sym (ap (λ (l : LogOf). l.log) is);
+      acts = Tells pass.caller.worker (Call what reply) ∷ shared.acts;
+      leads = (past, shared.leads, (leaves, called-so what reply new h));
+      told_is = ap (λ (l : List Told). told pass.caller.worker (Call what reply) ∷ l) shared.told_is ∙ sym (ap (λ (l : LogOf). l.log) is);
       hands = subst (λ (l : LogOf). HandsAre new l.log) (sym is) (hands-call opening past new pass.caller what answered log.log legal leaves (called-so what reply new h) gives shared.hands);
     }
 
   -- ---- paths that are looked up
 
-  abbrev acting : ℕ → List Kept → List Act → List Act
+  abbrev acting : ℕ → List Exchange → List Act → List Act
   acting worker [] acts = acts
   acting worker (what ∷ more) acts = acting worker more (Tells worker what ∷ acts)
 
-  acting-told : (worker : ℕ) (more : List Kept) (acts : List Act) → told_in (acting worker more acts) ≡ telling worker more (told_in acts)
+  acting-told : (worker : ℕ) (more : List Exchange) (acts : List Act) → told_in (acting worker more acts) ≡ telling worker more (told_in acts)
   acting-told worker [] acts = refl
   acting-told worker (what ∷ more) acts = acting-told worker more (Tells worker what ∷ acts)
 
   acting-leads : (worker : ℕ) (paths : List (List ℕ)) (acts : List Act) → Leads opening acts past → Leads opening (acting worker (found_in past.state.tree paths) acts) past
   acting-leads worker [] acts h = h
-  acting-leads worker (path ∷ paths) acts h = acting-leads worker paths (Tells worker (find_of path (find_group past.state.tree path)) ∷ acts) (past, h, (refl, refl))
+  acting-leads worker (path ∷ paths) acts h = acting-leads worker paths (Tells worker (finding path (find_group past.state.tree path)) ∷ acts) (past, h, (refl, refl))
 
   pub shared-finds : (worker : ℕ) (paths : List (List ℕ)) (next : LogOf) → next ≡ record log { log = telling worker (found_in past.state.tree paths) log.log } → IsShared table opening past next
   shared-finds worker paths next is = record {
@@ -170,8 +177,44 @@ shared-first table opening past log fresh of none empty = record {
   hands = subst (λ (l : List Told). HandsAre past l) (sym empty) (hands-none past);
 }
 
--- ---- what a pass keeps of paths
+-- ---- what a pass's seat notes
 
--- what its seat noted of them is what was found
-pub noted-finds : (front kept more : List Kept) → front ≡ kept → drop (length front) (kept ++ more) ≡ more
-noted-finds front kept more is = ap (λ (l : List Kept). drop (length l) (kept ++ more)) is ∙ drop-append_seam kept more
+-- what is new of what the pass keeps
+noted-more : (known : List Exchange) (kept more : List Kept) → map kept_of known ≡ kept → drop (length known) (kept ++ more) ≡ more
+noted-more known kept more is =
+    ap (λ (n : ℕ). drop n (kept ++ more)) (sym (length-map known kept_of) ∙ ap length is) ∙ drop-append_seam kept more
+
+-- of a call: the event that was asked, with its answer
+pub new-call : (known : List Exchange) (kept : List Kept) (what : Event) (said : Reply) → map kept_of known ≡ kept → new_of (what ∷ []) known (kept ++ call_of what said ∷ []) ≡ Call what said ∷ []
+new-call known kept what said is = ap (λ (l : List Kept). exchanges_of l (what ∷ [])) (noted-more known kept (call_of what said ∷ []) is)
+
+pub new-asked : (events : List Event) (known : List Exchange) (old new : PassOf) (what : Event) (said : Reply) → events ≡ what ∷ [] → map kept_of known ≡ old.kept → new ≡ keeping old (call_of what said) → new_of events known new.kept ≡ Call what said ∷ []
+new-asked events known old new what said is whole now =
+    ap (λ (es : List Event). new_of es known new.kept) is ∙ (ap (λ (p : PassOf). new_of (what ∷ []) known p.kept) now ∙ new-call known old.kept what said whole)
+
+-- the pass, with what its seat knows then
+pub answered-so : (old new : PassOf) (what : Event) (said : Reply) (known after : List Exchange) → new ≡ keeping old (call_of what said) → after ≡ known ++ Call what said ∷ [] → pass_of new after ≡ answering (pass_of old known) what said
+answered-so old new what said known after now is = ap (λ (p : PassOf). pass_of p after) now ∙ ap (pass_of (keeping old (call_of what said))) is
+
+-- of paths: what was found
+finds-back : (paths : List (List ℕ)) (found : List (Option ℕ)) → exchanges_of (map kept_of (finds_of paths found)) [] ≡ finds_of paths found
+finds-back [] found = refl
+finds-back (path ∷ paths) [] = refl
+finds-back (path ∷ paths) (g ∷ found) = ap (λ (l : List Exchange). finding path g ∷ l) (finds-back paths found)
+
+pub new-finds : (known : List Exchange) (kept : List Kept) (paths : List (List ℕ)) (found : List (Option ℕ)) → map kept_of known ≡ kept → new_of [] known (kept ++ map kept_of (finds_of paths found)) ≡ finds_of paths found
+new-finds known kept paths found is = ap (λ (l : List Kept). exchanges_of l []) (noted-more known kept (map kept_of (finds_of paths found)) is) ∙ finds-back paths found
+
+pub new-looked : (known : List Exchange) (old new : List Kept) (tree : List Node) (paths : List (List ℕ)) → map kept_of known ≡ old → new ≡ old ++ map kept_of (found_in tree paths) → new_of [] known new ≡ found_in tree paths
+new-looked known old new tree paths is now = ap (new_of [] known) now ∙ new-finds known old paths (map (find_group tree) paths) is
+
+-- the seat knows what it was told
+pub seated-so : (me : Seated) (worker : ℕ) (exchanges : List Exchange) → me ≡ (of_worker worker exchanges, []) → exchanges_in me.0.rows ≡ exchanges
+seated-so me worker exchanges is = ap (λ (m : Seated). exchanges_in m.0.rows) is
+
+pub seated-own : (me : Seated) (worker : ℕ) (exchanges : List Exchange) → me ≡ (of_worker worker exchanges, []) → me ≡ (of_worker worker (exchanges_in me.0.rows), [])
+seated-own me worker exchanges is = is ∙ ap (λ (l : List Exchange). (of_worker worker l, [])) (sym (seated-so me worker exchanges is))
+
+-- and the pass keeps just that
+pub whole-more : (known more : List Exchange) (kept : List Kept) → map kept_of known ≡ kept → map kept_of (known ++ more) ≡ kept ++ map kept_of more
+whole-more known more kept is = map-append kept_of known more ∙ ap (λ (l : List Kept). l ++ map kept_of more) is

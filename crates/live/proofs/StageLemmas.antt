@@ -9,14 +9,11 @@ use Rattle.machine.specs.declared.command.Word.TheVariants as word
 use Rattle.machine.specs.declared.event.Cause.{Cause}
 use Rattle.block_store.specs.declared.device.Fault.{Fault}
 use Rattle.pages.specs.Tickets.{TicketOf}
-use Rattle.book.specs.declared.kept.Asked.{Asked}
-use Rattle.book.specs.declared.kept.Kept.{Kept}
-use Rattle.book.specs.declared.kept.Kept.TheVariants.{Call}
+use Rattle.machine.specs.declared.event.Event.{Event}
 use Rattle.book.specs.declared.event.Event.TheVariants as event
 use Rattle.book.specs.declared.event.Reply.{Reply}
 use Rattle.book.specs.declared.event.Reply.TheVariants as said
 use Rattle.book.specs.Events.{event_of, reply_of}
-use Rattle.book.specs.Passes.{asked_of}
 use Rattle.turns.specs.declared.turn.Access.{Access}
 use Rattle.turns.specs.declared.turn.Resume.{Resume}
 use Rattle.turns.specs.declared.turn.Resume.TheVariants as resume
@@ -30,12 +27,14 @@ use Rattle.turns.specs.declared.turn.Transition.{Transition}
 use Rattle.turns.specs.declared.turn.Transition.TheVariants.{Goes, Kills, Waits, Ends}
 use Rattle.turns.specs.Turns.{Told, Tried, MadeRoom, MaxSet, Lowered, Reclaimed, Balanced, Made as Was_made, TaskDid, WasShown, Closed as Was_closed, done, wants, wants_pages, wants_watch, wants_balance, resumes_at, arrived, after_read, after_write, ends_with}
 use Rattle.turns.specs.Tickets.{holds}
+use Rattle.live.specs.declared.history.Exchange.{Exchange}
+use Rattle.live.specs.declared.history.Exchange.TheVariants.{Call}
 use Rattle.live.specs.Works.{WantMade, GoesOn}
 use Rattle.live.specs.Runs.{Linked}
 use Rattle.live.specs.Hands.{begun_by, IsInHand, HasStage, HasWant, HasTransition}
 
 -- a state that holds no ticket
-pub has-none : (kept : List Kept) (at : Stage) → holds at ≡ false → HasStage kept at
+pub has-none : (kept : List Exchange) (at : Stage) → holds at ≡ false → HasStage kept at
 has-none kept (stage.Read access ticket) none = cc
 has-none kept (stage.Arrive access ticket) none = cc
 has-none kept (stage.FetchFail ticket) none = cc
@@ -44,7 +43,7 @@ has-none kept (stage.Leave on ticket) none = cc
 has-none kept (stage.LeaveFail ticket) none = cc
 has-none kept other none = tt
 
-pub has-resumed : (kept : List Kept) (on : Resume) → HasStage kept (resumes_at on)
+pub has-resumed : (kept : List Exchange) (on : Resume) → HasStage kept (resumes_at on)
 has-resumed kept (resume.Try access) = tt
 has-resumed kept (resume.MakeRoom access why) = tt
 has-resumed kept (resume.Lower g) = tt
@@ -52,7 +51,7 @@ has-resumed kept (resume.Reclaim g left) = tt
 has-resumed kept resume.Balance = tt
 
 -- what is wanted is done with the ticket in hand
-module _ (marks : Watermarks) (free : ℕ) (kept : List Kept) where
+module _ (marks : Watermarks) (free : ℕ) (kept : List Exchange) where
   has-pages : (g left : ℕ) → HasWant kept (wants_pages g left)
   has-pages g zero = tt
   has-pages g (suc left) = tt
@@ -85,7 +84,7 @@ module _ (marks : Watermarks) (free : ℕ) (kept : List Kept) where
 
 -- ---- what a reply gives out
 
-module _ (new earlier : List Kept) (asked : Asked) (transition : Transition) where
+module _ (new earlier : List Exchange) (asked : Event) (transition : Transition) where
   stands-so : (is : Transition) → transition ≡ is → HasTransition new is → HasTransition new transition
   stands-so is e h = subst (HasTransition new) (sym e) h
 
@@ -190,9 +189,9 @@ module _ (new earlier : List Kept) (asked : Asked) (transition : Transition) whe
 
 -- ---- turns
 
-module _ (old new added : List Kept) (transition : Transition) (keeps : new ≡ old ++ added) where
+module _ (old new added : List Exchange) (transition : Transition) (keeps : new ≡ old ++ added) where
   same-kept : added ≡ [] → new ≡ old
-  same-kept none = keeps ∙ (ap (λ (l : List Kept). old ++ l) none ∙ append-nil old)
+  same-kept none = keeps ∙ (ap (λ (l : List Exchange). old ++ l) none ∙ append-nil old)
 
   read-has : (access : Access) (ticket : TicketOf) (answered : Result (Unit {0}) Fault) → IsInHand In ticket.number new → HasStage new (after_read access answered ticket)
   read-has access ticket (Ok _) h = h
@@ -203,7 +202,7 @@ module _ (old new added : List Kept) (transition : Transition) (keeps : new ≡ 
   write-has on ticket (Err fault) h = h
 
   want-has : (w : Want) → HasWant old w → WantMade w added transition → HasTransition new transition
-  want-has (want.Call remembers what) has h = told-has new old (asked_of (event_of what)) transition remembers h.said (keeps ∙ ap (λ (l : List Kept). old ++ l) h.kept) h.told
+  want-has (want.Call remembers what) has h = told-has new old (event_of what) transition remembers h.said (keeps ∙ ap (λ (l : List Exchange). old ++ l) h.kept) h.told
   want-has (want.Read access ticket) has h =
       let filled : TicketOf = record ticket { bytes = h.filled } in
       subst (HasTransition new) (sym h.goes) (read-has access filled h.answered (subst (IsInHand In ticket.number) (sym (same-kept h.kept)) has))
@@ -221,7 +220,7 @@ module _ (old new added : List Kept) (transition : Transition) (keeps : new ≡ 
       by (Ends said) h g = absurd g
 
 -- behind a turn after which the command goes on
-pub linked-has : (marks : Watermarks) (who : Actor) (old new : List Kept) (told telling : List Told_by) (at next : Stage) → Linked marks who at old new told telling next → HasStage old at → HasStage new next
+pub linked-has : (marks : Watermarks) (who : Actor) (old new : List Exchange) (told telling : List Told_by) (at next : Stage) → Linked marks who at old new told telling next → HasStage old at → HasStage new next
 linked-has marks who old new told telling at next l h =
     goes-has old new l.added l.link.transition l.keeps who l.said next
     (want-has old new l.added l.link.transition l.keeps (wants marks l.link.made.free at) (has-want marks l.link.made.free old at h) l.link.made.made) l.link.goes

@@ -3,7 +3,7 @@ use Rattle.std.proofs.Common.{◌≡◌, ◌≢◌, ℕ, ◌+◌, ◌<◌, ◌�
 use Rattle.std.specs.List.{sum_by}
 use Rattle.std.proofs.lemmas.List.Sums.{sum_by-cons, sum_by-append}
 use Rattle.std.proofs.lemmas.Bool.{cases_lt}
-use Rattle.book.specs.declared.kept.Kept.{Kept}
+use Rattle.live.specs.declared.history.Exchange.{Exchange}
 use Rattle.live.specs.declared.history.Told.{Told}
 use Rattle.live.specs.declared.history.Row.{Row}
 use Rattle.live.specs.Told.{told_to, told, telling}
@@ -11,26 +11,26 @@ use Rattle.live.specs.Rules.{AreRows, HavePasses, times_in, weight_in, weight_to
 
 -- ---- one thing more
 
-pub told-own : (worker : ℕ) (what : Kept) (log : List Told) → told_to worker (told worker what ∷ log) ≡ told_to worker log ++ what ∷ []
+pub told-own : (worker : ℕ) (what : Exchange) (log : List Told) → told_to worker (told worker what ∷ log) ≡ told_to worker log ++ what ∷ []
 told-own worker what log = ap (λ (b : Bool). told_to worker log ++ cond b (what ∷ []) []) (eq-eqb worker worker refl)
 
-pub told-other : (worker other : ℕ) (what : Kept) (log : List Told) → worker ≢ other → told_to other (told worker what ∷ log) ≡ told_to other log
+pub told-other : (worker other : ℕ) (what : Exchange) (log : List Told) → worker ≢ other → told_to other (told worker what ∷ log) ≡ told_to other log
 told-other worker other what log ne = ap (λ (b : Bool). told_to other log ++ cond b (what ∷ []) []) (ne_eqb worker other ne) ∙ append-nil (told_to other log)
 
 -- ---- more things
 
-pub telling-own : (worker : ℕ) (more : List Kept) (log : List Told) → told_to worker (telling worker more log) ≡ told_to worker log ++ more
+pub telling-own : (worker : ℕ) (more : List Exchange) (log : List Told) → told_to worker (telling worker more log) ≡ told_to worker log ++ more
 telling-own worker [] log = sym (append-nil (told_to worker log))
 telling-own worker (what ∷ more) log =
     telling-own worker more (told worker what ∷ log)
-    ∙ (ap (λ (l : List Kept). l ++ more) (told-own worker what log) ∙ append_assoc (told_to worker log) (what ∷ []) more)
+    ∙ (ap (λ (l : List Exchange). l ++ more) (told-own worker what log) ∙ append_assoc (told_to worker log) (what ∷ []) more)
 
-pub telling-other : (worker other : ℕ) (more : List Kept) (log : List Told) → worker ≢ other → told_to other (telling worker more log) ≡ told_to other log
+pub telling-other : (worker other : ℕ) (more : List Exchange) (log : List Told) → worker ≢ other → told_to other (telling worker more log) ≡ told_to other log
 telling-other worker other [] log ne = refl
 telling-other worker other (what ∷ more) log ne = telling-other worker other more (told worker what ∷ log) ne ∙ told-other worker other what log ne
 
 -- what it weighs
-pub telling-weight : (h : Kept → ℕ) (worker : ℕ) (more : List Kept) (log : List Told) → weight_told h (telling worker more log) ≡ weight_told h log + sum_by h more
+pub telling-weight : (h : Exchange → ℕ) (worker : ℕ) (more : List Exchange) (log : List Told) → weight_told h (telling worker more log) ≡ weight_told h log + sum_by h more
 telling-weight h worker [] log = omega arith
 telling-weight h worker (what ∷ more) log =
     omega (arith, telling-weight h worker more (told worker what ∷ log), sum_by-cons (λ (t : Told). h t.what) (told worker what) log, sum_by-cons h what more)
@@ -60,10 +60,10 @@ pub times-other : (worker : ℕ) (row : Row) (rows : List Row) → row.worker �
 times-other worker row rows ne = let none : one_if (row.worker == worker) ≡ 0 = ap one_if (ne_eqb row.worker worker ne) in omega (arith, times-cons worker row rows, none)
 
 -- rows of others stay what they are, as a worker is told more
-row-on : (worker : ℕ) (more : List Kept) (log : List Told) (row : Row) (rows : List Row) → times_in worker (row ∷ rows) ≡ 0 → row.worker ≢ worker
+row-on : (worker : ℕ) (more : List Exchange) (log : List Told) (row : Row) (rows : List Row) → times_in worker (row ∷ rows) ≡ 0 → row.worker ≢ worker
 row-on worker more log row rows none e = absurd (omega (arith, subst (λ (n : ℕ). times_in n (row ∷ rows) ≡ 1 + times_in n rows) e (times-own row rows), none))
 
-pub rows-on : (worker : ℕ) (more : List Kept) (log : List Told) (rows : List Row) → times_in worker rows ≡ 0 → AreRows log rows → AreRows (telling worker more log) rows
+pub rows-on : (worker : ℕ) (more : List Exchange) (log : List Told) (rows : List Row) → times_in worker rows ≡ 0 → AreRows log rows → AreRows (telling worker more log) rows
 rows-on worker more log [] none are = tt
 rows-on worker more log (row ∷ rows) none are =
     let ne = row-on worker more log row rows none in (
@@ -86,5 +86,5 @@ rows-given given (row ∷ rows) none = (
   rows-given given rows (λ worker le. omega (arith, times-cons worker row rows, none worker le)),
 )
 
-pub weight-append : (h : Kept → ℕ) (rows others : List Row) → weight_in h (rows ++ others) ≡ weight_in h rows + weight_in h others
-weight-append h rows others = sum_by-append (λ (r : Row). sum_by h r.kept) rows others
+pub weight-append : (h : Exchange → ℕ) (rows others : List Row) → weight_in h (rows ++ others) ≡ weight_in h rows + weight_in h others
+weight-append h rows others = sum_by-append (λ (r : Row). sum_by h r.exchanges) rows others

@@ -8,7 +8,7 @@ use Rattle.machine.specs.declared.command.Command.{Command}
 use Rattle.machine.specs.declared.command.Reply.{Reply as Told_by}
 use Rattle.machine.specs.declared.refusal.Refusal.{Refusal}
 use Rattle.machine.specs.declared.refusal.Refusal.TheVariants.{NoMemory}
-use Rattle.book.specs.Passes.{PassOf}
+use Rattle.live.specs.Passes.{PassOf}
 use Rattle.live.specs.Matching.{has_share}
 use Rattle.live.specs.Works.{Worked}
 
@@ -26,8 +26,8 @@ pub record HasWorked (marks : Watermarks) (old new : WorkerOf) : Type 0 where
   pub actor : new.actor ≡ old.actor
   pub commands : new.commands ≡ old.commands
   pub caller : new.pass.caller ≡ old.pass.caller
-  pub answered : IfOk new.answers (λ answers. Worked marks old.actor old.commands old.pass.kept new.pass.kept answers)
-  pub short : IfErr new.answers (λ cause. (cause ≡ NoMemory) × (new.pass.kept ≡ old.pass.kept))
+  pub answered : IfOk new.answers (λ answers. Worked marks old.actor old.commands old.pass.exchanges new.pass.exchanges answers)
+  pub short : IfErr new.answers (λ cause. (cause ≡ NoMemory) × (new.pass ≡ old.pass))
   -- with no ticket out before, it has none out now. (Excludes a worker that keeps a ticket.)
   pub rest : has_share old.pass.kept ≡ false → has_share new.pass.kept ≡ false
 
@@ -37,7 +37,7 @@ pub record HasAnswered (marks : Watermarks) (command : Command) (old new : Worke
   pub commands : new.commands ≡ old.commands
   pub answers : new.answers ≡ old.answers
   pub caller : new.pass.caller ≡ old.pass.caller
-  pub worked : Worked marks old.actor (command ∷ []) old.pass.kept new.pass.kept said
+  pub worked : Worked marks old.actor (command ∷ []) old.pass.exchanges new.pass.exchanges said
   pub rest : has_share old.pass.kept ≡ false → has_share new.pass.kept ≡ false
 
 -- each of them did. (Excludes a worker that is left out.)

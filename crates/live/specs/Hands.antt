@@ -5,9 +5,7 @@ use Rattle.machine.specs.declared.record.Direction.TheVariants.{In, Out}
 use Rattle.machine.specs.declared.reply.Reply.{Reply}
 use Rattle.machine.specs.declared.reply.Reply.TheVariants as reply
 use Rattle.machine.specs.Call.{Past, took}
-use Rattle.book.specs.declared.kept.Asked.{Asked}
-use Rattle.book.specs.declared.kept.Kept.{Kept}
-use Rattle.book.specs.declared.kept.Kept.TheVariants.{Call}
+use Rattle.machine.specs.declared.event.Event.{Event as Plain_event}
 use Rattle.book.specs.declared.event.Event.{Event}
 use Rattle.book.specs.declared.event.Event.TheVariants as event
 use Rattle.turns.specs.declared.turn.Stage.{Stage}
@@ -16,6 +14,8 @@ use Rattle.turns.specs.declared.turn.Want.{Want}
 use Rattle.turns.specs.declared.turn.Want.TheVariants as want
 use Rattle.turns.specs.declared.turn.Transition.{Transition}
 use Rattle.turns.specs.declared.turn.Transition.TheVariants.{Goes, Kills, Waits, Ends}
+use Rattle.live.specs.declared.history.Exchange.{Exchange}
+use Rattle.live.specs.declared.history.Exchange.TheVariants.{Call}
 use Rattle.live.specs.declared.history.Told.{Told}
 use Rattle.live.specs.Told.{told_to}
 
@@ -25,39 +25,39 @@ begun_by In n = reply.Fetch (record { 0 = n })
 begun_by Out n = reply.Out (record { 0 = n })
 
 -- the newest thing that a worker was told is that
-pub record IsInHand (direction : Direction) (n : ℕ) (kept : List Kept) : Type 0 where
-  pub earlier : List Kept
-  pub asked : Asked
-  pub last : kept ≡ earlier ++ Call asked (begun_by direction n) ∷ []
+pub record IsInHand (direction : Direction) (n : ℕ) (told : List Exchange) : Type 0 where
+  pub earlier : List Exchange
+  pub asked : Plain_event
+  pub last : told ≡ earlier ++ Call asked (begun_by direction n) ∷ []
 
 -- whatever ticket goes with an event is in the hand of a worker that was told this
-abbrev pub HasEvent : List Kept → Event → Type 0
-HasEvent kept (event.Arrived ticket) = IsInHand In ticket.number kept
-HasEvent kept (event.FetchFailed ticket) = IsInHand In ticket.number kept
-HasEvent kept (event.Left ticket) = IsInHand Out ticket.number kept
-HasEvent kept (event.LeaveFailed ticket) = IsInHand Out ticket.number kept
-HasEvent kept what = Unit {0}
+abbrev pub HasEvent : List Exchange → Event → Type 0
+HasEvent told (event.Arrived ticket) = IsInHand In ticket.number told
+HasEvent told (event.FetchFailed ticket) = IsInHand In ticket.number told
+HasEvent told (event.Left ticket) = IsInHand Out ticket.number told
+HasEvent told (event.LeaveFailed ticket) = IsInHand Out ticket.number told
+HasEvent told what = Unit {0}
 
-abbrev pub HasStage : List Kept → Stage → Type 0
-HasStage kept (stage.Read access ticket) = IsInHand In ticket.number kept
-HasStage kept (stage.Arrive access ticket) = IsInHand In ticket.number kept
-HasStage kept (stage.FetchFail ticket) = IsInHand In ticket.number kept
-HasStage kept (stage.Write on ticket) = IsInHand Out ticket.number kept
-HasStage kept (stage.Leave on ticket) = IsInHand Out ticket.number kept
-HasStage kept (stage.LeaveFail ticket) = IsInHand Out ticket.number kept
-HasStage kept other = Unit {0}
+abbrev pub HasStage : List Exchange → Stage → Type 0
+HasStage told (stage.Read access ticket) = IsInHand In ticket.number told
+HasStage told (stage.Arrive access ticket) = IsInHand In ticket.number told
+HasStage told (stage.FetchFail ticket) = IsInHand In ticket.number told
+HasStage told (stage.Write on ticket) = IsInHand Out ticket.number told
+HasStage told (stage.Leave on ticket) = IsInHand Out ticket.number told
+HasStage told (stage.LeaveFail ticket) = IsInHand Out ticket.number told
+HasStage told other = Unit {0}
 
-abbrev pub HasWant : List Kept → Want → Type 0
-HasWant kept (want.Call remembers what) = HasEvent kept what
-HasWant kept (want.Read access ticket) = IsInHand In ticket.number kept
-HasWant kept (want.Write on ticket) = IsInHand Out ticket.number kept
-HasWant kept (want.End said) = Unit {0}
+abbrev pub HasWant : List Exchange → Want → Type 0
+HasWant told (want.Call remembers what) = HasEvent told what
+HasWant told (want.Read access ticket) = IsInHand In ticket.number told
+HasWant told (want.Write on ticket) = IsInHand Out ticket.number told
+HasWant told (want.End said) = Unit {0}
 
-abbrev pub HasTransition : List Kept → Transition → Type 0
-HasTransition kept (Goes next) = HasStage kept next
-HasTransition kept (Kills kill on) = Unit {0}
-HasTransition kept (Waits on) = Unit {0}
-HasTransition kept (Ends said) = Unit {0}
+abbrev pub HasTransition : List Exchange → Transition → Type 0
+HasTransition told (Goes next) = HasStage told next
+HasTransition told (Kills kill on) = Unit {0}
+HasTransition told (Waits on) = Unit {0}
+HasTransition told (Ends said) = Unit {0}
 
 -- each ticket in hand is that of a transfer in flight, and its worker's own
 abbrev pub HandsAre : Past → List Told → Type 0

@@ -3,6 +3,8 @@ pub mod Shares
 pub mod Runs
 pub mod Reports
 pub mod Crews
+pub mod Exchanges
+pub mod Passes
 pub mod Matching
 pub mod Told
 pub mod Rules

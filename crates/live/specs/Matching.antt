@@ -8,30 +8,29 @@ use Rattle.book.specs.declared.kept.Asked.{Asked}
 use Rattle.book.specs.declared.kept.Asked.TheVariants.{Whole, Arrival}
 use Rattle.book.specs.declared.kept.Kept.{Kept}
 use Rattle.book.specs.declared.kept.Kept.TheVariants.{Call, Find}
-use Rattle.book.specs.Passes.{PassOf, call_of, is_entry}
+use Rattle.live.specs.declared.history.Exchange.{Exchange}
+use Rattle.live.specs.Exchanges.{stands, exchange_of}
+use Rattle.live.specs.Passes.{PassOf}
 
 -- ---- what workers were told
 
--- an entry as its worker's pass keeps it
-abbrev pub kept_of_entry : Entry → Kept
-kept_of_entry entry = call_of entry.event entry.reply
-
 -- what a worker was told, by a trace
-abbrev pub told_of : ℕ → List Entry → List Kept
-told_of worker entries = map kept_of_entry (entries_by worker entries)
+abbrev pub told_of : ℕ → List Entry → List Exchange
+told_of worker entries = map exchange_of (entries_by worker entries)
 
--- and by what a pass keeps: its answers that stand in the trace
-abbrev pub answers_of : List Kept → List Kept
-answers_of kept = filter is_entry kept
+-- and by its pass: the events that were not refused, with their answers
+abbrev pub answers_of : List Exchange → List Exchange
+answers_of exchanges = filter stands exchanges
 
 -- no two are of one worker
 abbrev pub AreApart : List PassOf → Type 0
 AreApart passes = AllPairs (λ (pass other : PassOf). pass.caller.worker ≢ other.caller.worker) passes
 
--- each pass keeps just what its worker was told, no more and no less. Of a worker of whom no pass is here nothing is said. (Excludes a pass that lost a reply, and one of another run.)
+-- Each pass has just what its worker was told, no more and no less, with all bytes. Of a worker of whom no pass is here nothing is said. (Excludes a pass that lost a reply, one of another run, and
+-- a trace that has an arrival with other bytes than the worker told.)
 pub record Matches (entries : List Entry) (passes : List PassOf) : Type 0 where
   pub apart : AreApart passes
-  pub same : All (λ (pass : PassOf). answers_of pass.kept ≡ told_of pass.caller.worker entries) passes
+  pub same : All (λ (pass : PassOf). answers_of pass.exchanges ≡ told_of pass.caller.worker entries) passes
 
 -- ---- transfers of a pass
 

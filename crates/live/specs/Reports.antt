@@ -3,9 +3,9 @@ use Rattle.std.specs.Prelude.{◌≡◌, ◌⊎◌, ◌<◌, ℕ, true, List, le
 use Rattle.machine.specs.declared.entry.Entry.{Entry}
 use Rattle.machine.specs.State.{Opening, State}
 use Rattle.machine.specs.Legal.{Legal}
-use Rattle.book.specs.Passes.{PassOf}
 use Rattle.live.specs.declared.report.Unfinished.{Unfinished}
 use Rattle.live.specs.declared.report.Unfinished.TheVariants.{PassMissing}
+use Rattle.live.specs.Passes.{PassOf}
 use Rattle.live.specs.Matching.{has_share}
 
 -- the history leads by steps of the plain machine from the opening to a state, newest entry first. (Excludes the trace of another machine.)

@@ -6,6 +6,10 @@ use lib.ListN.{get_elem?}
 use Rattle.atomic_table.specs.Table.{State, Me, Step}
 use Rattle.book.specs.Passes.{PassOf}
 use Rattle.book.specs.declared.kept.Kept.{Kept}
+use Rattle.book.specs.declared.kept.Kept.TheVariants.{Call as Kept_call, Find as Kept_find}
+use Rattle.machine.specs.declared.event.Event.{Event}
+use Rattle.live.specs.declared.history.Exchange.{Exchange}
+use Rattle.live.specs.declared.history.Exchange.TheVariants.{Call, Find}
 use Rattle.live.specs.declared.history.Told.{Told}
 use Rattle.live.specs.declared.history.Row.{Row}
 use Rattle.live.specs.declared.history.View.{View}
@@ -19,8 +23,8 @@ Seated = Me PassOf View
 
 -- ---- views
 
-abbrev pub row : ℕ → List Kept → Row
-row worker kept = record { worker = worker; kept = kept }
+abbrev pub row : ℕ → List Exchange → Row
+row worker exchanges = record { worker = worker; exchanges = exchanges }
 
 -- a seat that knows nothing
 abbrev pub blank : View
@@ -30,8 +34,8 @@ blank = record { books = 0; rolls = 0; given = 0; rolled = 0; log = []; rows = [
 abbrev pub of_rows : List Row → View
 of_rows rows = record { books = 0; rolls = 0; given = 0; rolled = 0; log = []; rows = rows }
 
-abbrev pub of_worker : ℕ → List Kept → View
-of_worker worker kept = of_rows (row worker kept ∷ [])
+abbrev pub of_worker : ℕ → List Exchange → View
+of_worker worker exchanges = of_rows (row worker exchanges ∷ [])
 
 -- a seat that knows how many passes were given out
 abbrev pub of_roll : ℕ → View
@@ -66,7 +70,7 @@ joined view other = record { books = view.books + other.books; rolls = view.roll
 -- each of these is what its worker was told
 abbrev pub AreRows : List Told → List Row → Type 0
 AreRows log [] = Unit {0}
-AreRows log (row ∷ rows) = (row.kept ≡ told_to row.worker log) × AreRows log rows
+AreRows log (row ∷ rows) = (row.exchanges ≡ told_to row.worker log) × AreRows log rows
 
 -- what a seat knows is so
 pub record Knows (log : List Told) (given : ℕ) (view : View) : Type 0 where
@@ -85,13 +89,13 @@ times_of worker view = times_in worker view.rows
 abbrev pub rows_of : View → ℕ
 rows_of view = length view.rows
 
-abbrev pub weight_in : (Kept → ℕ) → List Row → ℕ
-weight_in h rows = sum_by (λ (r : Row). sum_by h r.kept) rows
+abbrev pub weight_in : (Exchange → ℕ) → List Row → ℕ
+weight_in h rows = sum_by (λ (r : Row). sum_by h r.exchanges) rows
 
-abbrev pub weight_of : (Kept → ℕ) → View → ℕ
+abbrev pub weight_of : (Exchange → ℕ) → View → ℕ
 weight_of h view = weight_in h view.rows
 
-abbrev pub weight_told : (Kept → ℕ) → List Told → ℕ
+abbrev pub weight_told : (Exchange → ℕ) → List Told → ℕ
 weight_told h log = sum_by (λ (t : Told). h t.what) log
 
 abbrev pub books_of : View → ℕ
@@ -114,7 +118,7 @@ pub record IsKept (s : Sitting) : Type 0 where
   pub once : (worker : ℕ) → sum_by (times_of worker) s.views ≡ within worker given
   pub fresh : (worker : ℕ) → given ≤ worker → told_to worker log ≡ []
   pub count : sum_by rows_of s.views ≡ given
-  pub weight : (h : Kept → ℕ) → sum_by (weight_of h) s.views ≡ weight_told h log
+  pub weight : (h : Exchange → ℕ) → sum_by (weight_of h) s.views ≡ weight_told h log
 
 -- ---- what steps tell
 
@@ -123,18 +127,31 @@ abbrev pub HavePasses : ℕ → List Row → Type 0
 HavePasses given [] = Unit {0}
 HavePasses given (row ∷ rows) = (row.worker < given) × HavePasses given rows
 
--- a worker was told more: its pass is this now
-abbrev pub kept_in : List Row → List Kept
-kept_in [] = []
-kept_in (row ∷ rows) = row.kept
+abbrev pub exchanges_in : List Row → List Exchange
+exchanges_in [] = []
+exchanges_in (row ∷ rows) = row.exchanges
 
-abbrev pub noted : Option PassOf → View → View
-noted none view = view
-noted (some pass) view =
-    record view { log = telling pass.caller.worker (drop (length (kept_in view.rows)) pass.kept) view.log; rows = row pass.caller.worker pass.kept ∷ [] }
+-- what a pass keeps, with the events that were asked, in order
+abbrev pub exchanges_of : List Kept → List Event → List Exchange
+exchanges_of [] asked = []
+exchanges_of (Kept_find path found ∷ more) asked = Find path found ∷ exchanges_of more asked
+exchanges_of (Kept_call _ said ∷ more) [] = exchanges_of more []
+exchanges_of (Kept_call _ said ∷ more) (what ∷ asked) = Call what said ∷ exchanges_of more asked
 
-abbrev pub Notes : Step PassOf → Seated → ℕ → Seated → Type 0
-Notes st old n new = (new ≡ (noted st.said old.0, old.1)) × AreRows old.0.log old.0.rows × HavePasses old.0.given old.0.rows
+-- what is new of it
+abbrev pub new_of : List Event → List Exchange → List Kept → List Exchange
+new_of asked known kept = exchanges_of (drop (length known) kept) asked
+
+-- a worker was told more: this is its pass now, and these events were asked with it
+abbrev pub noted : List Event → Option PassOf → View → View
+noted asked none view = view
+noted asked (some pass) view =
+    let known = exchanges_in view.rows in
+    let more = new_of asked known pass.kept in
+    record view { log = telling pass.caller.worker more view.log; rows = row pass.caller.worker (known ++ more) ∷ [] }
+
+abbrev pub Notes : List Event → Step PassOf → Seated → ℕ → Seated → Type 0
+Notes asked st old n new = (new ≡ (noted asked st.said old.0, old.1)) × AreRows old.0.log old.0.rows × HavePasses old.0.given old.0.rows
 
 -- a pass more was given out
 abbrev pub one_more : View → View
@@ -149,7 +166,7 @@ pub record IsAll (view : View) : Type 0 where
   pub once : (worker : ℕ) → times_in worker view.rows ≤ 1
   pub few : length view.rows ≤ view.given
   pub rolled : view.rolled ≡ view.given
-  pub weight : view.given ≤ length view.rows → (h : Kept → ℕ) → weight_in h view.rows ≡ weight_told h view.log
+  pub weight : view.given ≤ length view.rows → (h : Exchange → ℕ) → weight_in h view.rows ≡ weight_told h view.log
 
 abbrev pub Learns : Step PassOf → Seated → ℕ → Seated → Type 0
 Learns st old n new = (new ≡ old) × IsAll old.0

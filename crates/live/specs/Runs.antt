@@ -6,87 +6,87 @@ use Rattle.machine.specs.declared.command.Command.{Command}
 use Rattle.machine.specs.declared.command.Answer.{Answer}
 use Rattle.machine.specs.declared.command.Answer.TheVariants as answer
 use Rattle.machine.specs.declared.command.Reply.{Reply as Told_by}
-use Rattle.book.specs.declared.kept.Kept.{Kept}
 use Rattle.book.specs.declared.event.Event.{Event}
 use Rattle.turns.specs.declared.turn.Pending.{Pending}
 use Rattle.turns.specs.declared.turn.Stage.{Stage}
 use Rattle.turns.specs.declared.turn.Transition.{Transition}
 use Rattle.turns.specs.declared.turn.Transition.TheVariants.{Ends}
 use Rattle.turns.specs.Turns.{Judged, paths_of, judged_with, answer_by}
+use Rattle.live.specs.declared.history.Exchange.{Exchange}
 use Rattle.live.specs.Works.{Calls, TurnMade, Link, Leads, Closes, Answered, JudgedRuns, Does, finds_of}
 
-pub record CallMade (remembers : Pending) (what : Event) (old new : List Kept) (transition : Transition) : Type 0 where
-  pub added : List Kept
+pub record CallMade (remembers : Pending) (what : Event) (old new : List Exchange) (transition : Transition) : Type 0 where
+  pub added : List Exchange
   pub keeps : new ≡ old ++ added
   pub made : Calls remembers what added transition
 
 -- all but the memory for the text
-pub record CallWants (remembers : Pending) (what : Event) (old new : List Kept) : Type 0 where
+pub record CallWants (remembers : Pending) (what : Event) (old new : List Exchange) : Type 0 where
   pub text : List ℕ
   pub made : CallMade remembers what old new (Ends (answer.Text text))
 
-pub record Made (marks : Watermarks) (stage : Stage) (old new : List Kept) (transition : Transition) : Type 0 where
-  pub added : List Kept
+pub record Made (marks : Watermarks) (stage : Stage) (old new : List Exchange) (transition : Transition) : Type 0 where
+  pub added : List Exchange
   pub keeps : new ≡ old ++ added
   pub made : TurnMade marks stage added transition
 
-pub record Wants (marks : Watermarks) (stage : Stage) (old new : List Kept) : Type 0 where
+pub record Wants (marks : Watermarks) (stage : Stage) (old new : List Exchange) : Type 0 where
   pub text : List ℕ
   pub made : Made marks stage old new (Ends (answer.Text text))
 
-pub record Linked (marks : Watermarks) (who : Actor) (stage : Stage) (old new : List Kept) (told telling : List Told_by) (next : Stage) : Type 0 where
-  pub added : List Kept
+pub record Linked (marks : Watermarks) (who : Actor) (stage : Stage) (old new : List Exchange) (told telling : List Told_by) (next : Stage) : Type 0 where
+  pub added : List Exchange
   pub said : List Told_by
   pub keeps : new ≡ old ++ added
   pub tells : telling ≡ told ++ said
   pub link : Link marks who stage added said next
 
-pub record Closed (marks : Watermarks) (who : Actor) (stage : Stage) (old new : List Kept) (told telling : List Told_by) : Type 0 where
-  pub added : List Kept
+pub record Closed (marks : Watermarks) (who : Actor) (stage : Stage) (old new : List Exchange) (told telling : List Told_by) : Type 0 where
+  pub added : List Exchange
   pub what : Answer
   pub keeps : new ≡ old ++ added
   pub tells : telling ≡ told ++ answer_by who what
   pub closes : Closes marks stage added what
 
-pub record Under (marks : Watermarks) (who : Actor) (start : Stage) (old new : List Kept) (told telling : List Told_by) (stage : Stage) : Type 0 where
+pub record Under (marks : Watermarks) (who : Actor) (start : Stage) (old new : List Exchange) (told telling : List Told_by) (stage : Stage) : Type 0 where
   pub row : List Stage
-  pub added : List Kept
+  pub added : List Exchange
   pub said : List Told_by
   pub keeps : new ≡ old ++ added
   pub tells : telling ≡ told ++ said
   pub leads : Leads marks who start row added said stage
 
-pub record Ran (marks : Watermarks) (who : Actor) (start : Stage) (old new : List Kept) (told telling : List Told_by) : Type 0 where
-  pub added : List Kept
+pub record Ran (marks : Watermarks) (who : Actor) (start : Stage) (old new : List Exchange) (told telling : List Told_by) : Type 0 where
+  pub added : List Exchange
   pub said : List Told_by
   pub keeps : new ≡ old ++ added
   pub tells : telling ≡ told ++ said
   pub runs : Answered marks who start added said
 
 -- paths were looked up, and this became of the command
-pub record Looked (who : Actor) (what : Command) (old new : List Kept) (judged : Judged) : Type 0 where
+pub record Looked (who : Actor) (what : Command) (old new : List Exchange) (judged : Judged) : Type 0 where
   pub found : List (Option ℕ)
   pub each : length found ≡ length (paths_of who what)
   pub keeps : new ≡ old ++ finds_of (paths_of who what) found
   pub is : judged ≡ judged_with who what found
 
-pub record Judging (marks : Watermarks) (who : Actor) (judged : Judged) (old new : List Kept) (told telling : List Told_by) : Type 0 where
-  pub added : List Kept
+pub record Judging (marks : Watermarks) (who : Actor) (judged : Judged) (old new : List Exchange) (told telling : List Told_by) : Type 0 where
+  pub added : List Exchange
   pub said : List Told_by
   pub keeps : new ≡ old ++ added
   pub tells : telling ≡ told ++ said
   pub runs : JudgedRuns marks who judged added said
 
-pub record Did (marks : Watermarks) (who : Actor) (what : Command) (old new : List Kept) (told telling : List Told_by) : Type 0 where
-  pub added : List Kept
+pub record Did (marks : Watermarks) (who : Actor) (what : Command) (old new : List Exchange) (told telling : List Told_by) : Type 0 where
+  pub added : List Exchange
   pub said : List Told_by
   pub keeps : new ≡ old ++ added
   pub tells : telling ≡ told ++ said
   pub does : Does marks who what added said
 
 -- the command was run once, and whatever it answered is dropped
-pub record Done (marks : Watermarks) (who : Actor) (what : Command) (old new : List Kept) : Type 0 where
-  pub added : List Kept
+pub record Done (marks : Watermarks) (who : Actor) (what : Command) (old new : List Exchange) : Type 0 where
+  pub added : List Exchange
   pub said : List Told_by
   pub keeps : new ≡ old ++ added
   pub does : Does marks who what added said

@@ -4,9 +4,9 @@ use Rattle.atomic_table.specs.Seated.{TableId}
 use Rattle.machine.specs.Tree.{Node, find_group}
 use Rattle.machine.specs.State.{Opening}
 use Rattle.machine.specs.Call.{Past}
-use Rattle.book.specs.declared.kept.Kept.{Kept}
-use Rattle.book.specs.Passes.{PassOf}
+use Rattle.live.specs.declared.history.Exchange.{Exchange}
 use Rattle.live.specs.declared.history.Row.{Row}
+use Rattle.live.specs.Passes.{PassOf}
 use Rattle.live.specs.Rules.{row}
 use Rattle.live.specs.Logs.{LogOf}
 use Rattle.live.specs.Hands.{HandsAre}
@@ -34,9 +34,9 @@ pub record Gathers (old new : Past) : Type 0 where
   pub same : new ≡ record old { order = new.order }
 
 -- what is found for these paths
-abbrev pub found_in : List Node → List (List ℕ) → List Kept
+abbrev pub found_in : List Node → List (List ℕ) → List Exchange
 found_in tree paths = finds_of paths (map (find_group tree) paths)
 
 -- what passes have, by worker
 abbrev pub rows_of : List PassOf → List Row
-rows_of passes = map (λ (pass : PassOf). row pass.caller.worker pass.kept) passes
+rows_of passes = map (λ (pass : PassOf). row pass.caller.worker pass.exchanges) passes

@@ -1,5 +1,5 @@
 -- Runs of commands by a worker: a row of turns like that of a schedule, but without the book and the disk, which others change meanwhile. A call of the book is one
--- kept answer; what the device answers is free; busy is no answer, and the state that met it is tried again; there is no limit of turns.
+-- exchange; what the device answers is free; busy is no answer, and the state that met it is tried again; there is no limit of turns.
 use Rattle.std.specs.Prelude.{◌≡◌, ◌⊎◌, ℕ, List, [], ◌∷◌, ◌++◌, length, Result, Ok, Err, Option, false}
 use Rattle.machine.specs.declared.config.Watermarks.{Watermarks}
 use Rattle.machine.specs.declared.refusal.Refusal.TheVariants.{NoMemory}
@@ -11,11 +11,9 @@ use Rattle.machine.specs.declared.command.Answer.TheVariants as answer
 use Rattle.machine.specs.declared.command.Reply.{Reply as Told_by}
 use Rattle.block_store.specs.declared.device.Fault.{Fault}
 use Rattle.pages.specs.Tickets.{TicketOf}
-use Rattle.book.specs.declared.kept.Kept.{Kept}
 use Rattle.book.specs.declared.event.Event.{Event}
 use Rattle.book.specs.declared.event.Reply.{Reply}
 use Rattle.book.specs.Events.{event_of, reply_of}
-use Rattle.book.specs.Passes.{call_of, find_of}
 use Rattle.turns.specs.declared.turn.Access.{Access}
 use Rattle.turns.specs.declared.turn.Resume.{Resume}
 use Rattle.turns.specs.declared.turn.Pending.{Pending}
@@ -26,38 +24,41 @@ use Rattle.turns.specs.declared.turn.Transition.{Transition}
 use Rattle.turns.specs.declared.turn.Transition.TheVariants.{Goes, Kills, Waits, Ends}
 use Rattle.turns.specs.Turns.{wants, Told, resumes_at, kill_answer, after_read, after_write, Judged, paths_of, judged_with, answer_by}
 use Rattle.turns.specs.Tickets.{holds}
+use Rattle.live.specs.declared.history.Exchange.{Exchange}
+use Rattle.live.specs.declared.history.Exchange.TheVariants.{Call}
+use Rattle.live.specs.Exchanges.{finding}
 
 -- ---- one turn
 
--- the book is asked this, whatever it is by then; what is asked and answered is kept. (Excludes an event that the table does not ask, and an answer that
--- the book did not give.)
-pub record Calls (remembers : Pending) (what : Event) (added : List Kept) (transition : Transition) : Type 0 where
+-- the book is asked this, whatever it is by then; what is asked and answered is noted, an arrival with the bytes that its ticket has. (Excludes an event that the table does not
+-- ask, an answer that the book did not give, and an arrival with other bytes than the device brought.)
+pub record Calls (remembers : Pending) (what : Event) (added : List Exchange) (transition : Transition) : Type 0 where
   pub said : Reply
-  pub kept : added ≡ call_of (event_of what) (reply_of said) ∷ []
+  pub kept : added ≡ Call (event_of what) (reply_of said) ∷ []
   pub told : Told remembers said transition
 
 -- the device reads the ticket's block into it, or fails
-pub record Reads (access : Access) (ticket : TicketOf) (added : List Kept) (transition : Transition) : Type 0 where
+pub record Reads (access : Access) (ticket : TicketOf) (added : List Exchange) (transition : Transition) : Type 0 where
   pub answered : Result (Unit {0}) Fault
   pub filled : List ℕ
   pub kept : added ≡ []
   pub goes : transition ≡ Goes (after_read access answered (record ticket { bytes = filled }))
 
 -- the device writes the ticket's bytes, or fails
-pub record Writes (on : Resume) (ticket : TicketOf) (added : List Kept) (transition : Transition) : Type 0 where
+pub record Writes (on : Resume) (ticket : TicketOf) (added : List Exchange) (transition : Transition) : Type 0 where
   pub answered : Result (Unit {0}) Fault
   pub kept : added ≡ []
   pub goes : transition ≡ Goes (after_write on answered ticket)
 
 -- what is wanted is done. (Excludes a read that is told as failed to the book and as done to the task.)
-abbrev pub WantMade : Want → List Kept → Transition → Type 0
+abbrev pub WantMade : Want → List Exchange → Transition → Type 0
 WantMade (want.Call remembers what) added transition = Calls remembers what added transition
 WantMade (want.Read access ticket) added transition = Reads access ticket added transition
 WantMade (want.Write on ticket) added transition = Writes on ticket added transition
 WantMade (want.End said) added transition = (added ≡ []) × (transition ≡ Ends said)
 
 -- a turn of a command that stands there, with so many frames free
-pub record TurnMade (marks : Watermarks) (stage : Stage) (added : List Kept) (transition : Transition) : Type 0 where
+pub record TurnMade (marks : Watermarks) (stage : Stage) (added : List Exchange) (transition : Transition) : Type 0 where
   pub free : ℕ
   pub made : WantMade (wants marks free stage) added transition
 
@@ -71,16 +72,16 @@ GoesOn who (Waits on) said stage = (said ≡ []) × (stage ≡ resumes_at on)
 GoesOn who (Ends what) said stage = ⊥
 
 -- one turn, after which the command goes on
-pub record Link (marks : Watermarks) (who : Actor) (old : Stage) (added : List Kept) (said : List Told_by) (new : Stage) : Type 0 where
+pub record Link (marks : Watermarks) (who : Actor) (old : Stage) (added : List Exchange) (said : List Told_by) (new : Stage) : Type 0 where
   pub transition : Transition
   pub made : TurnMade marks old added transition
   pub goes : GoesOn who transition said new
 
 -- turns that lead from one state to another, the newest of the states between first
-abbrev pub Leads : Watermarks → Actor → Stage → List Stage → List Kept → List Told_by → Stage → Type 0
+abbrev pub Leads : Watermarks → Actor → Stage → List Stage → List Exchange → List Told_by → Stage → Type 0
 Leads marks who start [] added said end = (added ≡ []) × (said ≡ []) × (end ≡ start)
 Leads marks who start (last ∷ row) added said end =
-    (before : List Kept) × (here : List Kept) × (earlier : List Told_by) × (now : List Told_by)
+    (before : List Exchange) × (here : List Exchange) × (earlier : List Told_by) × (now : List Told_by)
     × Leads marks who start row before earlier last × Link marks who last here now end × (added ≡ before ++ here) × (said ≡ earlier ++ now)
 
 abbrev pub no_memory : Answer
@@ -88,18 +89,18 @@ no_memory = answer.Word (word.Refused NoMemory)
 
 -- the last turn: it ends the command, or memory is wanted and refused: for room in the pass while no ticket is in hand, which adds nothing, or for a control
 -- file's text, which was shown. (Excludes a worker that gives up with a ticket in hand.)
-abbrev pub Closes : Watermarks → Stage → List Kept → Answer → Type 0
+abbrev pub Closes : Watermarks → Stage → List Exchange → Answer → Type 0
 Closes marks stage added what =
     TurnMade marks stage added (Ends what)
     ⊎ ((what ≡ no_memory) × (holds stage ≡ false) × (added ≡ []))
     ⊎ ((what ≡ no_memory) × (text : List ℕ) × TurnMade marks stage added (Ends (answer.Text text)))
 
 -- a command that stands there is answered
-pub record Answered (marks : Watermarks) (who : Actor) (start : Stage) (added : List Kept) (said : List Told_by) : Type 0 where
+pub record Answered (marks : Watermarks) (who : Actor) (start : Stage) (added : List Exchange) (said : List Told_by) : Type 0 where
   pub row : List Stage
   pub last : Stage
-  pub before : List Kept
-  pub here : List Kept
+  pub before : List Exchange
+  pub here : List Exchange
   pub earlier : List Told_by
   pub what : Answer
   pub leads : Leads marks who start row before earlier last
@@ -110,51 +111,51 @@ pub record Answered (marks : Watermarks) (who : Actor) (start : Stage) (added : 
 -- ---- commands
 
 -- paths are looked up, one after another, and this is found for them
-abbrev pub finds_of : List (List ℕ) → List (Option ℕ) → List Kept
+abbrev pub finds_of : List (List ℕ) → List (Option ℕ) → List Exchange
 finds_of [] found = []
 finds_of (path ∷ paths) [] = []
-finds_of (path ∷ paths) (g ∷ found) = find_of path g ∷ finds_of paths found
+finds_of (path ∷ paths) (g ∷ found) = finding path g ∷ finds_of paths found
 
 -- what was judged has ended, or runs from where it stands
-abbrev pub JudgedRuns : Watermarks → Actor → Judged → List Kept → List Told_by → Type 0
+abbrev pub JudgedRuns : Watermarks → Actor → Judged → List Exchange → List Told_by → Type 0
 JudgedRuns marks who (Err why) added said = (added ≡ []) × (said ≡ answer_by who (answer.Word (word.Refused why)))
 JudgedRuns marks who (Ok stage) added said = Answered marks who stage added said
 
 -- its paths are looked up once, the rest is judged with what was found, and it runs. (Excludes a path that is looked up again.)
-pub record Begins (marks : Watermarks) (who : Actor) (what : Command) (added : List Kept) (said : List Told_by) : Type 0 where
+pub record Begins (marks : Watermarks) (who : Actor) (what : Command) (added : List Exchange) (said : List Told_by) : Type 0 where
   pub found : List (Option ℕ)
-  pub later : List Kept
+  pub later : List Exchange
   pub each : length found ≡ length (paths_of who what)
   pub runs : JudgedRuns marks who (judged_with who what found) later said
   pub keeps : added ≡ finds_of (paths_of who what) found ++ later
 
 -- one command; or memory for it is refused at once
-abbrev pub Does : Watermarks → Actor → Command → List Kept → List Told_by → Type 0
+abbrev pub Does : Watermarks → Actor → Command → List Exchange → List Told_by → Type 0
 Does marks who what added said = Begins marks who what added said ⊎ ((added ≡ []) × (said ≡ answer_by who no_memory))
 
 -- commands, one after another. (Excludes a worker that leaves one out.)
-abbrev pub Works : Watermarks → Actor → List Command → List Kept → List Told_by → Type 0
+abbrev pub Works : Watermarks → Actor → List Command → List Exchange → List Told_by → Type 0
 Works marks who [] added said = (added ≡ []) × (said ≡ [])
 Works marks who (what ∷ commands) added said =
-    (here : List Kept) × (later : List Kept) × (now : List Told_by) × (then : List Told_by)
+    (here : List Exchange) × (later : List Exchange) × (now : List Told_by) × (then : List Told_by)
     × Does marks who what here now × Works marks who commands later then × (added ≡ here ++ later) × (said ≡ now ++ then)
 
 -- a run of one command, any number of times, whatever it answers; the newest first
-abbrev pub Repeats : Watermarks → Actor → Command → List (List Kept) → List Kept → Type 0
+abbrev pub Repeats : Watermarks → Actor → Command → List (List Exchange) → List Exchange → Type 0
 Repeats marks who what [] added = added ≡ []
-Repeats marks who what (here ∷ row) added = (before : List Kept) × (said : List Told_by) × Repeats marks who what row before × Does marks who what here said × (added ≡ before ++ here)
+Repeats marks who what (here ∷ row) added = (before : List Exchange) × (said : List Told_by) × Repeats marks who what row before × Does marks who what here said × (added ≡ before ++ here)
 
 -- ---- what a worker's calls do
 
 -- the commands are answered so, and this is what they add to the pass
-pub record Worked (marks : Watermarks) (who : Actor) (commands : List Command) (old new : List Kept) (said : List Told_by) : Type 0 where
-  pub added : List Kept
+pub record Worked (marks : Watermarks) (who : Actor) (commands : List Command) (old new : List Exchange) (said : List Told_by) : Type 0 where
+  pub added : List Exchange
   pub keeps : new ≡ old ++ added
   pub works : Works marks who commands added said
 
 -- the command was run any number of times, and this is what that adds to the pass
-pub record Repeated (marks : Watermarks) (who : Actor) (what : Command) (old new : List Kept) : Type 0 where
-  pub row : List (List Kept)
-  pub added : List Kept
+pub record Repeated (marks : Watermarks) (who : Actor) (what : Command) (old new : List Exchange) : Type 0 where
+  pub row : List (List Exchange)
+  pub added : List Exchange
   pub keeps : new ≡ old ++ added
   pub repeats : Repeats marks who what row added

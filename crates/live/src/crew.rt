@@ -95,7 +95,7 @@ impl<L: Opened> Worker<L> {
     ) -> Result<Vec<Reply>, Refusal>
         ensures actor { self.new.actor ≡ self.old.actor }
         ensures answered { IfOk result (λ answers. HasAnswered L.opening.watermarks command self.old self.new answers.items) }
-        ensures err { IfErr result (λ cause. (cause ≡ Refusal.NoMemory) × (self.new.pass.kept ≡ self.old.pass.kept)) }
+        ensures err { IfErr result (λ cause. (cause ≡ Refusal.NoMemory) × (self.new.pass ≡ self.old.pass)) }
     {
         live.work(rt, &mut self.pass, self.actor, &[command])
     }
@@ -129,11 +129,11 @@ pub fn work_together<L: Opened + Send + Sync, D: SharedDevice + Sync, R: Threads
 ) -> (Vec<Worker<L>>, Pass<L>)
     ensures workers { HaveWorked L.opening.watermarks workers.items result.0.items }
     ensures count { length result.0.items ≡ length workers.items }
-    ensures daemon { Repeated L.opening.watermarks Actor.Daemon Command.Daemon daemon.kept result.1.kept }
+    ensures daemon { Repeated L.opening.watermarks Actor.Daemon Command.Daemon daemon.exchanges result.1.exchanges }
     ensures rest { has_share daemon.kept ≡ false → has_share result.1.kept ≡ false }
 {
     let balance = move || -> Pass<L>
-        ensures works { Repeated L.opening.watermarks Actor.Daemon Command.Daemon daemon.kept result.kept }
+        ensures works { Repeated L.opening.watermarks Actor.Daemon Command.Daemon daemon.exchanges result.exchanges }
         ensures rest { has_share daemon.kept ≡ false → has_share result.kept ≡ false }
     {
         let mut daemon = daemon;

@@ -1,26 +1,39 @@
 //! One history of what all workers were told, and seats that know of it. It exists in the proofs alone: at run time it is
 //! one word, which never changes.
 
-ghost use Rattle.std.specs.Prelude.{◌≡◌, ◌++◌, ◌+◌, ◌<◌, [], IfOk, drop, length};
+ghost use Rattle.std.specs.Prelude.{◌≡◌, ◌++◌, ◌+◌, ◌<◌, [], IfOk};
 ghost use Rattle.live.specs.Told.{told_to, telling};
-ghost use Rattle.live.specs.Rules.{of_worker, of_roll, of_book, joined, kept_in, IsAll};
+ghost use Rattle.live.specs.Rules.{of_worker, of_roll, of_book, joined, exchanges_in, new_of, IsAll};
 
 use atomic_table::{Join, Play, Seat, Split, Table, TableRule};
-use book::{Kept, Pass};
+use book::Pass;
+use machine::event::Event;
+use machine::id::GroupId;
+use machine::reply::Reply;
+use machine::text::Text;
 use std::alloc::{AllocError, Global};
 use std::collections::LinkedList;
-use std::marker::Model;
+use std::marker::{Brand, Model, PhantomData};
 
-/// One thing that was told, and to whom. No value of this type, nor of the two below, is made.
+/// One thing that a worker asked the machine, and what it was told, with all bytes. No value of this type, nor of the three
+/// below, is made.
+pub enum Exchange {
+    /// An event and its answer, a refusal too.
+    Call { event: Event, said: Reply },
+    /// A path that was looked for, and the group that it names, if there is one.
+    Find { path: Text, found: Option<GroupId> },
+}
+
+/// One thing that was told, and to whom.
 pub struct Told {
     pub worker: u32,
-    pub what: Kept,
+    pub what: Exchange,
 }
 
 /// What a worker was told, the oldest first.
 pub struct Row {
     pub worker: u32,
-    pub kept: LinkedList<Kept>,
+    pub exchanges: LinkedList<Exchange>,
 }
 
 /// What a seat knows.
@@ -50,12 +63,39 @@ impl TableRule<Pass, View, ()> for Fair {
     ghost first = { λ _. first_view };
 }
 
-struct Noting;
+/// Which events were asked with a pass since its seat was told of it, for the proof alone. A pass keeps an arrival without
+/// its bytes, so whoever has the event says what it was.
+pub(crate) trait Asked {
+    ghost use Rattle.std.specs.Prelude.{List};
+    ghost use Rattle.machine.specs.declared.event.Event.{Event};
 
-impl Play<Pass, View> for Noting {
+    ghost events: { List Event };
+}
+
+/// The proof of each call of a function for this type picks them.
+impl Asked for Brand {
+    ghost use Rattle.std.specs.Prelude.{[]};
+
+    ghost events = { [] };
+}
+
+/// Paths were looked up, and no event was asked.
+pub(crate) struct Paths;
+
+impl Asked for Paths {
+    ghost use Rattle.std.specs.Prelude.{[]};
+
+    ghost events = { [] };
+}
+
+struct Noting<A: Asked> {
+    of: PhantomData<A>,
+}
+
+impl<A: Asked> Play<Pass, View> for Noting<A> {
     ghost use Rattle.live.specs.Rules.{Notes};
 
-    ghost then = { Notes };
+    ghost then = { Notes A.events };
 }
 
 struct Giving;
@@ -215,22 +255,21 @@ impl Log {
         *roll = table.shared.split_seat::<Rolls>(&mut self.seat);
     }
 
-    /// A worker was told more: this is its pass now.
-    pub(crate) fn note(&mut self, front: &mut Front, pass: &Pass)
+    /// A worker was told more: this is its pass now, and these events were asked with it.
+    pub(crate) fn note<A: Asked>(&mut self, front: &mut Front, pass: &Pass)
         requires of_these { front.old.table_id ≡ self.old.table }
-        requires of_worker { front.old.me ≡ (of_worker pass.now.caller.worker (kept_in front.old.me.0.rows), []) }
-        requires more { pass.now.kept ≡ kept_in front.old.me.0.rows ++ drop (length (kept_in front.old.me.0.rows)) pass.now.kept }
-        ensures log { self.new ≡ record self.old { log = telling pass.now.caller.worker (drop (length (kept_in front.old.me.0.rows)) pass.now.kept) self.old.log } }
-        ensures known { kept_in front.old.me.0.rows ≡ told_to pass.now.caller.worker self.old.log }
+        requires of_worker { front.old.me ≡ (of_worker pass.now.caller.worker (exchanges_in front.old.me.0.rows), []) }
+        ensures log { self.new ≡ record self.old { log = telling pass.now.caller.worker (new_of A.events (exchanges_in front.old.me.0.rows) pass.now.kept) self.old.log } }
+        ensures known { exchanges_in front.old.me.0.rows ≡ told_to pass.now.caller.worker self.old.log }
         ensures given { pass.now.caller.worker < self.old.given }
-        ensures front { (front.new.table_id ≡ self.old.table) × (front.new.me ≡ (of_worker pass.now.caller.worker pass.now.kept, [])) }
+        ensures front { (front.new.table_id ≡ self.old.table) × (front.new.me ≡ (of_worker pass.now.caller.worker (exchanges_in front.old.me.0.rows ++ new_of A.events (exchanges_in front.old.me.0.rows) pass.now.kept), [])) }
     {
         let table = &self.table;
         let mine = table.shared.split_seat::<Rows>(front);
         table.shared.join_seat::<Rows>(&mut self.seat, mine);
         table
             .shared
-            .compare_exchange_with::<Noting>(&mut self.seat, 0, 0, 0, pass);
+            .compare_exchange_with::<Noting<A>>(&mut self.seat, 0, 0, 0, pass);
         *front = table.shared.split_seat::<Rows>(&mut self.seat);
     }
 

@@ -1,6 +1,6 @@
 //! The book under its lock, the device, and the end of a run.
 
-ghost use Rattle.std.specs.Prelude.{◌≡◌, ◌⊎◌, ℕ, ◌+◌, ◌<◌, ◌≤◌, [], true, false, All, MatchBool, is_ok, length, reverse, IfOk, IfErr, OnOk, OnErr, ◌↔◌};
+ghost use Rattle.std.specs.Prelude.{◌≡◌, ◌⊎◌, ℕ, ◌+◌, ◌<◌, ◌≤◌, [], true, false, All, map, MatchBool, is_ok, length, reverse, IfOk, IfErr, OnOk, OnErr, ◌↔◌};
 ghost use Rattle.std.specs.List.{sum_by};
 ghost use Rattle.machine.specs.State.{opening_of, is_config};
 ghost use Rattle.machine.specs.History.{Honest, Right, Numbered, at_first};
@@ -9,6 +9,7 @@ ghost use Rattle.machine.specs.Audit.{Passes, IsFirstWrong};
 ghost use Rattle.machine.specs.Transfers.{transfers_begun, transfers_ended};
 ghost use Rattle.book.specs.Passes.{count_of};
 ghost use Rattle.turns.specs.Tickets.{blocks_in};
+ghost use Rattle.live.specs.Exchanges.{kept_of};
 ghost use Rattle.live.specs.Matching.{Matches, has_share};
 ghost use Rattle.live.specs.Reports.{IsLegal, HasOut, IsMissing};
 ghost use Rattle.live.specs.OneRun.{IsOneRun, WereGiven};
@@ -96,6 +97,7 @@ impl<L: Opened, D: SharedDevice> Live<L, D> {
     /// `NoMemory` where memory is refused.
     pub fn pass<R: Wait>(&self, rt: &R, roll: &mut Roll<L>) -> Result<Pass<L>, Refusal>
         ensures kept { IfOk result (λ pass. pass.kept ≡ []) }
+        ensures exchanges { IfOk result (λ pass. pass.exchanges ≡ []) }
         ensures worker { IfOk result (λ pass. pass.caller.worker ≡ roll.old.given) }
         ensures counted { OnOk result (roll.new ≡ record { given = roll.old.given + 1 }) }
         ensures unchanged { OnErr result (roll.new ≡ roll.old) }
@@ -113,7 +115,8 @@ impl<L: Opened, D: SharedDevice> Live<L, D> {
 
 /// Whether one of the passes began a transfer that it did not end.
 fn has_out<L: Opened>(passes: &[Pass<L>]) -> bool
-    ensures { MatchBool result (HasOut passes.now) (All (λ p. has_share p.kept ≡ false) passes.now) }
+    ensures out { MatchBool result (HasOut passes.now) (All (λ p. has_share p.kept ≡ false) passes.now) }
+    ensures whole { result ≡ false → All (λ p. map kept_of p.exchanges ≡ p.kept) passes.now }
 {
     for pass in passes {
         if has_share(pass.kept()) {
@@ -134,7 +137,7 @@ impl<L: Opened, D: SharedDevice + Drop> Live<L, D> {
     ) -> Result<Report, (Live<L, D>, Vec<Pass<L>>, Unfinished, Roll<L>)>
         ensures count { IfOk result (λ r. length passes.items ≡ roll.given) }
         ensures one_run { IfOk result (λ r. IsOneRun L.opening r.trace.entries passes.items) }
-        ensures each { IfOk result (λ r. All (λ p. WereGiven L.opening (reverse r.trace.entries) p.caller.worker p.kept) passes.items) }
+        ensures each { IfOk result (λ r. All (λ p. WereGiven L.opening (reverse r.trace.entries) p.caller.worker p.exchanges) passes.items) }
         ensures legal { IfOk result (λ r. IsLegal L.opening (reverse r.trace.entries)) }
         ensures right { IfOk result (λ r. (files : ℕ → ℕ → ℕ → ℕ) → Honest (at_first files) (reverse r.trace.entries) → Right (at_first files) (reverse r.trace.entries)) }
         ensures numbered { IfOk result (λ r. Numbered (reverse r.trace.entries)) }
@@ -144,6 +147,7 @@ impl<L: Opened, D: SharedDevice + Drop> Live<L, D> {
         ensures at_rest { IfOk result (λ r. r.replies_match ≡ true → transfers_begun (reverse r.trace.entries) ≡ transfers_ended (reverse r.trace.entries)) }
         ensures audited { IfOk result (λ r. let history = reverse r.trace.entries in is_ok r.audit ≡ true ↔ Passes (first_of history) history) }
         ensures first { IfOk result (λ r. IfErr r.audit (λ first. IsFirstWrong r.trace.entries first.entry)) }
+        ensures whole { IfOk result (λ r. All (λ p. map kept_of p.exchanges ≡ p.kept) passes.items) }
         ensures all { IfOk result (λ r. All (λ p. has_share p.kept ≡ false) passes.items) }
         ensures missing { IfErr result (λ e. IsMissing passes.items e.2) }
         ensures given { IfErr result (λ e. e.2 ≡ Unfinished.PassMissing roll.given) }

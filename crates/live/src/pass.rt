@@ -1,21 +1,24 @@
 //! The workers' passes.
 
-ghost use Rattle.std.specs.Prelude.{◌≡◌, ◌<◌, ◌≤◌, ◌∷◌, [], length, OnOk, OnErr, IfOk, true, false};
+ghost use Rattle.std.specs.Prelude.{◌≡◌, ◌<◌, ◌≤◌, ◌∷◌, [], map, OnOk, OnErr, IfOk, true, false};
 ghost use Rattle.machine.specs.Call.{leaves_entry};
 ghost use Rattle.book.specs.Events.{event_of, reply_of};
-ghost use Rattle.book.specs.Passes.{call_of, keeping, CalledWith};
+ghost use Rattle.book.specs.Passes.{CalledWith};
 ghost use Rattle.book.specs.Replies.{Replies, KeepsTicket, HandsOut};
 ghost use Rattle.turns.specs.Tickets.{holds};
 ghost use Rattle.turns.specs.Turns.{paths_of};
+ghost use Rattle.live.specs.declared.history.Exchange.TheVariants.{Call};
+ghost use Rattle.live.specs.Exchanges.{kept_of};
+ghost use Rattle.live.specs.Passes.{pass_of, book_pass, answering};
 ghost use Rattle.live.specs.Runs.{Looked};
 ghost use Rattle.live.specs.Told.{told, told_to, telling};
 ghost use Rattle.live.specs.Rules.{of_worker};
 ghost use Rattle.live.specs.Shared.{Gathers, IsShared, found_in};
 ghost use Rattle.live.specs.Hands.{HasEvent};
-ghost use Rattle.live.specs.Shares.{strange};
+ghost use Rattle.live.specs.Shares.{strange, Carries};
 
 use crate::hand::Hand;
-use crate::history::{Front, Log};
+use crate::history::{Asked, Front, Log, Paths};
 use crate::opened::Opened;
 use book::{Book, Event, Kept, Reply};
 use machine::command::{Actor, Command};
@@ -27,9 +30,9 @@ use turns::judge::judge;
 use turns::turn::Stage;
 
 /// A worker's leave to ask the book that workers share, with what it asked and what came back; and a seat of the history,
-/// which knows the same.
+/// which knows the same, with the bytes of what arrived.
 ///
-/// A contract sees it as it sees a [`book::Pass`].
+/// A contract sees it as it sees a [`book::Pass`], and sees what was asked with all bytes.
 #[derive(Drop)]
 pub struct Pass<L: Opened> {
     pass: book::Pass,
@@ -42,16 +45,17 @@ pub struct Pass<L: Opened> {
 }
 
 impl<L: Opened> Model for Pass<L> {
-    ghost use Rattle.std.specs.Prelude.{◌≡◌, []};
-    ghost use Rattle.book.specs.Passes.{PassOf};
-    ghost use Rattle.live.specs.Rules.{of_worker};
+    ghost use Rattle.std.specs.Prelude.{◌≡◌, [], map};
+    ghost use Rattle.live.specs.Exchanges.{kept_of};
+    ghost use Rattle.live.specs.Passes.{PassOf, pass_of};
+    ghost use Rattle.live.specs.Rules.{of_worker, exchanges_in};
     ghost use Rattle.live.specs.Shares.{strange};
 
     ghost Value = { PassOf };
 
-    ghost view = { λ p. p.pass };
+    ghost view = { λ p. pass_of p.pass (exchanges_in p.front.me.0.rows) };
 
-    ghost invariant = { λ p. (p.front.table_id ≡ L.table) × (p.front.me ≡ (of_worker p.pass.caller.worker p.pass.kept, [])) × (strange p.pass.kept ≡ 0) };
+    ghost invariant = { λ p. (p.front.table_id ≡ L.table) × (p.front.me ≡ (of_worker p.pass.caller.worker (exchanges_in p.front.me.0.rows), [])) × (map kept_of (exchanges_in p.front.me.0.rows) ≡ p.pass.kept) × (strange p.pass.kept ≡ 0) };
 }
 
 impl<L: Opened> Pass<L> {
@@ -59,7 +63,7 @@ impl<L: Opened> Pass<L> {
         requires fresh { pass.kept ≡ [] }
         requires of_these { front.table_id ≡ L.table }
         requires front { front.me ≡ (of_worker pass.caller.worker [], []) }
-        ensures { result ≡ pass }
+        ensures { result ≡ pass_of pass [] }
     {
         Pass {
             pass,
@@ -70,10 +74,18 @@ impl<L: Opened> Pass<L> {
         }
     }
 
-    /// What was asked with it, the oldest first. A ticket in hand is its worker's own, so the end of no transfer was
-    /// answered `Stranger`.
+    /// The worker's number: passes are numbered from 0, in the order in which they were given out.
+    pub fn worker(&self) -> u32
+        ensures { result ≡ self.now.caller.worker }
+    {
+        self.pass.worker().0
+    }
+
+    /// What was asked with it, the oldest first, an arrival without its bytes. A ticket in hand is its worker's own, so the end
+    /// of no transfer was answered `Stranger`.
     pub fn kept(&self) -> &[Kept]
         ensures kept { result.now ≡ self.now.kept }
+        ensures whole { map kept_of self.now.exchanges ≡ self.now.kept }
         ensures known { strange self.now.kept ≡ 0 }
     {
         self.pass.kept()
@@ -157,6 +169,7 @@ impl<L: Opened> Pass<L> {
     /// Memory for so many events or paths more.
     pub(crate) fn reserve(&mut self, more: usize) -> Result<(), AllocError>
         ensures room { OnOk result (more ≤ self.new.room) }
+        ensures exchanges { self.new.exchanges ≡ self.old.exchanges }
         ensures kept { self.new.kept ≡ self.old.kept }
         ensures caller { self.new.caller ≡ self.old.caller }
     {
@@ -166,25 +179,27 @@ impl<L: Opened> Pass<L> {
         }
     }
 
-    /// One event of the book. The history has what it was told.
-    pub(crate) fn ask(&mut self, book: &mut Book, log: &mut Log, event: Event) -> Reply
+    /// One event of the book. The history has the event, with all bytes, and what it was told.
+    pub(crate) fn ask<A: Asked>(&mut self, book: &mut Book, log: &mut Log, event: Event) -> Reply
+        requires asked { A.events ≡ event_of event ∷ [] }
         requires room { 0 < self.old.room }
         requires leaves { leaves_entry (event_of event) ≡ true }
         requires of_these { log.old.table ≡ L.table }
         requires shared { IsShared L.table L.opening book.old log.old }
-        requires hand { HasEvent self.old.kept event }
-        ensures called { CalledWith book.old self.old (event_of event) (reply_of result) book.new }
-        ensures log { log.new ≡ record log.old { log = told self.old.caller.worker (call_of (event_of event) (reply_of result)) ∷ log.old.log } }
-        ensures known { self.old.kept ≡ told_to self.old.caller.worker log.old.log }
+        requires hand { HasEvent self.old.exchanges event }
+        ensures called { CalledWith book.old (book_pass self.old) (event_of event) (reply_of result) book.new }
+        ensures log { log.new ≡ record log.old { log = told self.old.caller.worker (Call (event_of event) (reply_of result)) ∷ log.old.log } }
+        ensures whole { map kept_of self.old.exchanges ≡ self.old.kept }
+        ensures known { self.old.exchanges ≡ told_to self.old.caller.worker log.old.log }
         ensures given { self.old.caller.worker < log.old.given }
-        ensures kept { self.new ≡ keeping self.old (call_of (event_of event) (reply_of result)) }
+        ensures answered { self.new ≡ answering self.old (event_of event) (reply_of result) }
         ensures replies { Replies event result }
         ensures gives { HandsOut book.new self.old.caller.worker result }
         ensures keeps { KeepsTicket self.old.caller.worker event result }
         ensures passes { book.new.passes ≡ book.old.passes }
     {
         let reply = book.call(&mut self.pass, event);
-        log.note(&mut self.front, &self.pass);
+        log.note::<A>(&mut self.front, &self.pass);
         reply
     }
 
@@ -199,22 +214,23 @@ impl<L: Opened> Pass<L> {
     ) -> Result<Result<Stage, Refusal>, AllocError>
         requires room { 2 ≤ self.old.room }
         requires of_these { log.old.table ≡ L.table }
-        ensures looked { IfOk result (λ judged. Looked actor command.now self.old.kept self.new.kept judged) }
+        ensures looked { IfOk result (λ judged. Looked actor command.now self.old.exchanges self.new.exchanges judged) }
+        ensures share { OnOk result (Carries self.old.kept 0 self.new.kept 0) }
         ensures log { OnOk result (log.new ≡ record log.old { log = telling self.old.caller.worker (found_in book.now.state.tree (paths_of actor command.now)) log.old.log }) }
         ensures caller { self.new.caller ≡ self.old.caller }
         ensures free { IfOk result (λ judged. IfOk judged (λ stage. holds stage ≡ false)) }
-        ensures err { OnErr result (self.new.kept ≡ self.old.kept) }
+        ensures err { OnErr result (self.new ≡ self.old) }
         ensures unchanged { OnErr result (log.new ≡ log.old) }
     {
         let judged = judge(alloc, book, &mut self.pass, actor, command)?;
-        log.note(&mut self.front, &self.pass);
+        log.note::<Paths>(&mut self.front, &self.pass);
         Ok(judged)
     }
 
     /// Its seat of the history.
     pub(crate) fn into_front(self) -> Front
         ensures of_these { result.table_id ≡ L.table }
-        ensures front { result.me ≡ (of_worker self.caller.worker self.kept, []) }
+        ensures front { result.me ≡ (of_worker self.caller.worker self.exchanges, []) }
     {
         let Pass {
             pass: _,

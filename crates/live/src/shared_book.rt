@@ -6,10 +6,12 @@ ghost use Rattle.machine.specs.Call.{first_past};
 ghost use Rattle.machine.specs.History.{Honest, Right, Numbered, at_first};
 ghost use Rattle.machine.specs.Transfers.{transfers_begun, transfers_ended};
 ghost use Rattle.book.specs.Events.{event_of, reply_of};
-ghost use Rattle.book.specs.Passes.{count_of, call_of, keeping};
 ghost use Rattle.book.specs.Replies.{Replies};
 ghost use Rattle.turns.specs.Tickets.{blocks_in, is_ending, OwnEvent, OwnReply, IsHanded, holds};
+ghost use Rattle.live.specs.Exchanges.{entries_in};
+ghost use Rattle.live.specs.Passes.{answering};
 ghost use Rattle.live.specs.Matching.{Matches};
+ghost use Rattle.live.specs.Shares.{Carries};
 ghost use Rattle.live.specs.Runs.{Looked};
 ghost use Rattle.live.specs.Reports.{IsLegal};
 ghost use Rattle.live.specs.Rules.{IsAll};
@@ -25,7 +27,7 @@ use book::{Book, Event, Reply};
 use machine::command::{Actor, Command};
 use machine::refusal::Refusal;
 use std::alloc::{AllocError, Global};
-use std::marker::{Model, PhantomData};
+use std::marker::{Brand, Model, PhantomData};
 use trace::Trace;
 use turns::turn::Stage;
 
@@ -91,6 +93,7 @@ impl<L: Opened> SharedBook<L> {
     /// A pass for one worker more, which the roll counts.
     pub fn pass(&mut self, roll: &mut Roll<L>) -> Result<Pass<L>, Refusal>
         ensures kept { IfOk result (λ pass. pass.kept ≡ []) }
+        ensures exchanges { IfOk result (λ pass. pass.exchanges ≡ []) }
         ensures worker { IfOk result (λ pass. pass.caller.worker ≡ roll.old.given) }
         ensures counted { OnOk result (roll.new ≡ record { given = roll.old.given + 1 }) }
         ensures unchanged { OnErr result (roll.new ≡ roll.old) }
@@ -106,8 +109,8 @@ impl<L: Opened> SharedBook<L> {
     pub fn call(&mut self, pass: &mut Pass<L>, event: Event) -> Reply
         requires room { 0 < pass.old.room }
         requires own { OwnEvent pass.old.caller.worker (blocks_in L.opening) event }
-        requires hand { HasEvent pass.old.kept event }
-        ensures kept { pass.new ≡ keeping pass.old (call_of (event_of event) (reply_of result)) }
+        requires hand { HasEvent pass.old.exchanges event }
+        ensures answered { pass.new ≡ answering pass.old (event_of event) (reply_of result) }
         ensures replies { Replies event result }
         ensures own { OwnReply pass.old.caller.worker (blocks_in L.opening) result }
         ensures handed { IsHanded result }
@@ -131,14 +134,14 @@ impl<L: Opened> SharedBook<L> {
     fn ask(&mut self, pass: &mut Pass<L>, event: Event) -> Reply
         requires room { 0 < pass.old.room }
         requires own { OwnEvent pass.old.caller.worker (blocks_in L.opening) event }
-        requires hand { HasEvent pass.old.kept event }
-        ensures kept { pass.new ≡ keeping pass.old (call_of (event_of event) (reply_of result)) }
+        requires hand { HasEvent pass.old.exchanges event }
+        ensures answered { pass.new ≡ answering pass.old (event_of event) (reply_of result) }
         ensures replies { Replies event result }
         ensures own { OwnReply pass.old.caller.worker (blocks_in L.opening) result }
         ensures handed { IsHanded result }
     {
         self.book.history_is_right();
-        let reply = pass.ask(&mut self.book, &mut self.log, event);
+        let reply = pass.ask::<Brand>(&mut self.book, &mut self.log, event);
         self.book.history_is_right();
         reply
     }
@@ -152,10 +155,11 @@ impl<L: Opened> SharedBook<L> {
         command: &Command,
     ) -> Result<Result<Stage, Refusal>, AllocError>
         requires { 2 ≤ pass.old.room }
-        ensures looked { IfOk result (λ judged. Looked actor command.now pass.old.kept pass.new.kept judged) }
+        ensures looked { IfOk result (λ judged. Looked actor command.now pass.old.exchanges pass.new.exchanges judged) }
+        ensures share { OnOk result (Carries pass.old.kept 0 pass.new.kept 0) }
         ensures caller { pass.new.caller ≡ pass.old.caller }
         ensures free { IfOk result (λ judged. IfOk judged (λ stage. holds stage ≡ false)) }
-        ensures err { OnErr result (pass.new.kept ≡ pass.old.kept) }
+        ensures err { OnErr result (pass.new ≡ pass.old) }
     {
         pass.judge(alloc, &self.book, &mut self.log, actor, command)
     }
@@ -208,12 +212,12 @@ impl<L: Opened> SharedBook<L> {
         requires { roll.given ≤ length passes.items }
         ensures count { length passes.items ≡ roll.given }
         ensures one_run { IsOneRun L.opening result.entries passes.items }
-        ensures each { All (λ p. WereGiven L.opening (reverse result.entries) p.caller.worker p.kept) passes.items }
+        ensures each { All (λ p. WereGiven L.opening (reverse result.entries) p.caller.worker p.exchanges) passes.items }
         ensures legal { IsLegal L.opening (reverse result.entries) }
         ensures right { (files : ℕ → ℕ → ℕ → ℕ) → Honest (at_first files) (reverse result.entries) → Right (at_first files) (reverse result.entries) }
         ensures numbered { Numbered (reverse result.entries) }
         ensures transfers { transfers_ended (reverse result.entries) ≤ transfers_begun (reverse result.entries) }
-        ensures entries { length result.entries ≡ sum_by (λ p. count_of p.kept) passes.items }
+        ensures entries { length result.entries ≡ sum_by (λ p. entries_in p.exchanges) passes.items }
         ensures matches { Matches result.entries passes.items }
     {
         let SharedBook {

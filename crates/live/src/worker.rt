@@ -2,10 +2,10 @@
 
 ghost use Rattle.std.specs.Prelude.{◌≡◌, ℕ, ◌+◌, ◌<◌, ◌≤◌, ◌++◌, [], true, false, length, IfOk, IfErr, OnOk, OnErr, IfSome, IfNone, vec_len, vec_capacity};
 ghost use Rattle.book.specs.Events.{event_of, reply_of};
-ghost use Rattle.book.specs.Passes.{call_of, keeping};
 ghost use Rattle.book.specs.Replies.{Replies};
 ghost use Rattle.turns.specs.Turns.{AwaitsAll, resumes_at, answer_by};
 ghost use Rattle.turns.specs.Tickets.{blocks_in, is_ending, holds, holds_after, IsOwn, OwnEvent, OwnReply, OwnStage, OwnTransition, IsHanded};
+ghost use Rattle.live.specs.Passes.{answering};
 ghost use Rattle.live.specs.Works.{Reads, Writes, Worked, Repeated, no_memory};
 ghost use Rattle.live.specs.Matching.{has_share};
 ghost use Rattle.live.specs.Shares.{one_if, strange, Carries, KeepsShare};
@@ -24,9 +24,6 @@ use std::alloc::AllocError;
 use std::sync::Wait;
 use turns::automaton::{ask, holds, let_go, resumes_at, told};
 use turns::turn::{Access, Pending, Resume, Stage, Transition, Want};
-
-/// So many kills are counted in the room for answers: a task's number is used once.
-const MOST_KILLS: usize = 65_535;
 
 fn out_of_memory(actor: Actor) -> Told
     ensures { result ≡ record { actor = actor; answer = no_memory } }
@@ -52,8 +49,8 @@ impl<L: Opened, D: SharedDevice> Live<L, D> {
     fn call<R: Wait>(&self, rt: &R, pass: &mut Pass<L>, event: Event, marks: bool) -> Reply
         requires room { 0 < pass.old.room }
         requires own { OwnEvent pass.old.caller.worker (blocks_in L.opening) event }
-        requires hand { HasEvent pass.old.kept event }
-        ensures kept { pass.new ≡ keeping pass.old (call_of (event_of event) (reply_of result)) }
+        requires hand { HasEvent pass.old.exchanges event }
+        ensures answered { pass.new ≡ answering pass.old (event_of event) (reply_of result) }
         ensures replies { Replies event result }
         ensures own { OwnReply pass.old.caller.worker (blocks_in L.opening) result }
         ensures handed { IsHanded result }
@@ -100,10 +97,10 @@ impl<L: Opened, D: SharedDevice> Live<L, D> {
     ) -> Result<Transition, AllocError>
         requires room { 0 < pass.old.room }
         requires own { OwnEvent pass.old.caller.worker (blocks_in L.opening) event }
-        requires hand { HasEvent pass.old.kept event }
+        requires hand { HasEvent pass.old.exchanges event }
         requires awaits { AwaitsAll (Want.Call pending event) }
-        ensures made { IfOk result (λ t. CallMade pending event pass.old.kept pass.new.kept t) }
-        ensures wants { OnErr result (CallWants pending event pass.old.kept pass.new.kept) }
+        ensures made { IfOk result (λ t. CallMade pending event pass.old.exchanges pass.new.exchanges t) }
+        ensures wants { OnErr result (CallWants pending event pass.old.exchanges pass.new.exchanges) }
         ensures own { IfOk result (λ t. OwnTransition pass.old.caller.worker (blocks_in L.opening) t) }
         ensures caller { pass.new.caller ≡ pass.old.caller }
         ensures room { pass.new.room + 1 ≡ pass.old.room }
@@ -152,9 +149,9 @@ impl<L: Opened, D: SharedDevice> Live<L, D> {
     ) -> Result<Transition, AllocError>
         requires room { 0 < pass.old.room }
         requires own { OwnStage pass.old.caller.worker (blocks_in L.opening) stage }
-        requires hand { HasStage pass.old.kept stage }
-        ensures made { IfOk result (λ t. Made L.opening.watermarks stage pass.old.kept pass.new.kept t) }
-        ensures wants { OnErr result (Wants L.opening.watermarks stage pass.old.kept pass.new.kept) }
+        requires hand { HasStage pass.old.exchanges stage }
+        ensures made { IfOk result (λ t. Made L.opening.watermarks stage pass.old.exchanges pass.new.exchanges t) }
+        ensures wants { OnErr result (Wants L.opening.watermarks stage pass.old.exchanges pass.new.exchanges) }
         ensures own { IfOk result (λ t. OwnTransition pass.old.caller.worker (blocks_in L.opening) t) }
         ensures caller { pass.new.caller ≡ pass.old.caller }
         ensures room { pass.old.room ≤ pass.new.room + 1 }
@@ -179,7 +176,7 @@ impl<L: Opened, D: SharedDevice> Live<L, D> {
         answers: &mut Vec<Told>,
         spare: usize,
     ) -> Result<(), AllocError>
-        ensures kept { (pass.new.kept ≡ pass.old.kept) × (pass.new.caller ≡ pass.old.caller) }
+        ensures kept { (pass.new.exchanges ≡ pass.old.exchanges) × (pass.new.kept ≡ pass.old.kept) × (pass.new.caller ≡ pass.old.caller) }
         ensures answers { (answers.new.items ≡ answers.old.items) × (vec_len answers.new ≡ vec_len answers.old) × (vec_capacity answers.old ≤ vec_capacity answers.new) }
         ensures room { OnOk result ((1 < pass.new.room) × (vec_len answers.new + spare + 1 < vec_capacity answers.new)) }
     {
@@ -196,7 +193,7 @@ impl<L: Opened, D: SharedDevice> Live<L, D> {
         spare: usize,
     ) -> Result<(), AllocError>
         requires held { holds stage.now ≡ true → (0 < pass.old.room) × (vec_len answers.old + spare + 1 < vec_capacity answers.old) }
-        ensures kept { (pass.new.kept ≡ pass.old.kept) × (pass.new.caller ≡ pass.old.caller) }
+        ensures kept { (pass.new.exchanges ≡ pass.old.exchanges) × (pass.new.kept ≡ pass.old.kept) × (pass.new.caller ≡ pass.old.caller) }
         ensures answers { (answers.new.items ≡ answers.old.items) × (vec_len answers.new ≡ vec_len answers.old) × (vec_capacity answers.old ≤ vec_capacity answers.new) }
         ensures room { OnOk result ((0 < pass.new.room) × (vec_len answers.new + spare + 1 < vec_capacity answers.new)) }
         ensures free { OnOk result (holds stage.now ≡ false → 1 < pass.new.room) }
@@ -220,13 +217,13 @@ impl<L: Opened, D: SharedDevice> Live<L, D> {
         spare: usize,
     ) -> Option<Stage>
         requires own { OwnStage pass.old.caller.worker (blocks_in L.opening) stage }
-        requires hand { HasStage pass.old.kept stage }
+        requires hand { HasStage pass.old.exchanges stage }
         requires held { holds stage ≡ true → (0 < pass.old.room) × (vec_len answers.old + spare + 1 < vec_capacity answers.old) }
         requires space { vec_len answers.old + spare < vec_capacity answers.old }
-        ensures goes { IfSome result (λ next. Linked L.opening.watermarks actor stage pass.old.kept pass.new.kept answers.old.items answers.new.items next) }
-        ensures ends { IfNone result (Closed L.opening.watermarks actor stage pass.old.kept pass.new.kept answers.old.items answers.new.items) }
+        ensures goes { IfSome result (λ next. Linked L.opening.watermarks actor stage pass.old.exchanges pass.new.exchanges answers.old.items answers.new.items next) }
+        ensures ends { IfNone result (Closed L.opening.watermarks actor stage pass.old.exchanges pass.new.exchanges answers.old.items answers.new.items) }
         ensures own { IfSome result (λ next. OwnStage pass.new.caller.worker (blocks_in L.opening) next) }
-        ensures hand { IfSome result (λ next. HasStage pass.new.kept next) }
+        ensures hand { IfSome result (λ next. HasStage pass.new.exchanges next) }
         ensures caller { pass.new.caller ≡ pass.old.caller }
         ensures held { IfSome result (λ next. holds next ≡ true → (0 < pass.new.room) × (vec_len answers.new + spare + 1 < vec_capacity answers.new)) }
         ensures space { IfSome result (λ next. vec_len answers.new + spare < vec_capacity answers.new) }
@@ -275,7 +272,7 @@ impl<L: Opened, D: SharedDevice> Live<L, D> {
     )
         requires free { holds stage ≡ false }
         requires space { vec_len answers.old + spare < vec_capacity answers.old }
-        ensures ran { Ran L.opening.watermarks actor stage pass.old.kept pass.new.kept answers.old.items answers.new.items }
+        ensures ran { Ran L.opening.watermarks actor stage pass.old.exchanges pass.new.exchanges answers.old.items answers.new.items }
         ensures caller { pass.new.caller ≡ pass.old.caller }
         ensures left { vec_len answers.new + spare ≤ vec_capacity answers.new }
         ensures share { Carries pass.old.kept 0 pass.new.kept 0 }
@@ -299,10 +296,11 @@ impl<L: Opened, D: SharedDevice> Live<L, D> {
         actor: Actor,
         command: &Command,
     ) -> Result<Result<Stage, Refusal>, AllocError>
-        ensures looked { IfOk result (λ judged. Looked actor command.now pass.old.kept pass.new.kept judged) }
+        ensures looked { IfOk result (λ judged. Looked actor command.now pass.old.exchanges pass.new.exchanges judged) }
         ensures free { IfOk result (λ judged. IfOk judged (λ stage. holds stage ≡ false)) }
         ensures caller { pass.new.caller ≡ pass.old.caller }
-        ensures err { OnErr result (pass.new.kept ≡ pass.old.kept) }
+        ensures share { OnOk result (Carries pass.old.kept 0 pass.new.kept 0) }
+        ensures err { OnErr result ((pass.new.exchanges ≡ pass.old.exchanges) × (pass.new.kept ≡ pass.old.kept)) }
     {
         pass.reserve(2)?;
         let judged = self
@@ -324,7 +322,7 @@ impl<L: Opened, D: SharedDevice> Live<L, D> {
     )
         requires space { vec_len answers.old + spare < vec_capacity answers.old }
         requires free { IfOk judged (λ stage. holds stage ≡ false) }
-        ensures runs { Judging L.opening.watermarks actor judged pass.old.kept pass.new.kept answers.old.items answers.new.items }
+        ensures runs { Judging L.opening.watermarks actor judged pass.old.exchanges pass.new.exchanges answers.old.items answers.new.items }
         ensures caller { pass.new.caller ≡ pass.old.caller }
         ensures left { vec_len answers.new + spare ≤ vec_capacity answers.new }
         ensures share { Carries pass.old.kept 0 pass.new.kept 0 }
@@ -349,7 +347,7 @@ impl<L: Opened, D: SharedDevice> Live<L, D> {
         spare: usize,
     )
         requires space { vec_len answers.old + spare < vec_capacity answers.old }
-        ensures did { Did L.opening.watermarks actor command.now pass.old.kept pass.new.kept answers.old.items answers.new.items }
+        ensures did { Did L.opening.watermarks actor command.now pass.old.exchanges pass.new.exchanges answers.old.items answers.new.items }
         ensures caller { pass.new.caller ≡ pass.old.caller }
         ensures left { vec_len answers.new + spare ≤ vec_capacity answers.new }
         ensures share { Carries pass.old.kept 0 pass.new.kept 0 }
@@ -373,18 +371,15 @@ impl<L: Opened, D: SharedDevice> Live<L, D> {
         actor: Actor,
         commands: &[Command],
     ) -> Result<Vec<Told>, Refusal>
-        ensures works { IfOk result (λ answers. Worked L.opening.watermarks actor commands.now pass.old.kept pass.new.kept answers.items) }
+        ensures works { IfOk result (λ answers. Worked L.opening.watermarks actor commands.now pass.old.exchanges pass.new.exchanges answers.items) }
         ensures share { KeepsShare pass.old.kept pass.new.kept }
         ensures known { OnOk result (strange pass.new.kept ≡ 0) }
         ensures rest { has_share pass.old.kept ≡ false → has_share pass.new.kept ≡ false }
         ensures worker { pass.new.caller ≡ pass.old.caller }
-        ensures err { IfErr result (λ cause. (cause ≡ Refusal.NoMemory) × (pass.new.kept ≡ pass.old.kept)) }
+        ensures err { IfErr result (λ cause. (cause ≡ Refusal.NoMemory) × (pass.new ≡ pass.old)) }
     {
         let mut answers = Vec::new(self.alloc);
-        if answers
-            .reserve(commands.len().saturating_add(MOST_KILLS))
-            .is_err()
-        {
+        if answers.reserve(commands.len().saturating_add(1)).is_err() {
             return Err(Refusal::NoMemory);
         }
         pass.sit(self.seat(rt));
@@ -399,8 +394,8 @@ impl<L: Opened, D: SharedDevice> Live<L, D> {
     /// Answers the task's commands, in order. `busy` is no answer: the worker waits until a transfer has ended,
     /// and tries again.
     ///
-    /// Room for all answers, with as many kills as there can be, is made first; `NoMemory` where that is
-    /// refused, and nothing is done.
+    /// Room for an answer to each command and for one kill is made first; `NoMemory` where that is refused, and
+    /// nothing is done. Room for more kills is made turn by turn.
     pub fn task<R: Wait>(
         &self,
         rt: &R,
@@ -408,12 +403,12 @@ impl<L: Opened, D: SharedDevice> Live<L, D> {
         n: u32,
         commands: &[Command],
     ) -> Result<Vec<Told>, Refusal>
-        ensures works { IfOk result (λ answers. Worked L.opening.watermarks (Actor.Task n) commands.now pass.old.kept pass.new.kept answers.items) }
+        ensures works { IfOk result (λ answers. Worked L.opening.watermarks (Actor.Task n) commands.now pass.old.exchanges pass.new.exchanges answers.items) }
         ensures share { KeepsShare pass.old.kept pass.new.kept }
         ensures known { OnOk result (strange pass.new.kept ≡ 0) }
         ensures rest { has_share pass.old.kept ≡ false → has_share pass.new.kept ≡ false }
         ensures worker { pass.new.caller ≡ pass.old.caller }
-        ensures err { IfErr result (λ cause. (cause ≡ Refusal.NoMemory) × (pass.new.kept ≡ pass.old.kept)) }
+        ensures err { IfErr result (λ cause. (cause ≡ Refusal.NoMemory) × (pass.new ≡ pass.old)) }
     {
         self.work(rt, pass, Actor::Task(n), commands)
     }
@@ -425,12 +420,12 @@ impl<L: Opened, D: SharedDevice> Live<L, D> {
         pass: &mut Pass<L>,
         commands: &[Command],
     ) -> Result<Vec<Told>, Refusal>
-        ensures works { IfOk result (λ answers. Worked L.opening.watermarks Actor.Control commands.now pass.old.kept pass.new.kept answers.items) }
+        ensures works { IfOk result (λ answers. Worked L.opening.watermarks Actor.Control commands.now pass.old.exchanges pass.new.exchanges answers.items) }
         ensures share { KeepsShare pass.old.kept pass.new.kept }
         ensures known { OnOk result (strange pass.new.kept ≡ 0) }
         ensures rest { has_share pass.old.kept ≡ false → has_share pass.new.kept ≡ false }
         ensures worker { pass.new.caller ≡ pass.old.caller }
-        ensures err { IfErr result (λ cause. (cause ≡ Refusal.NoMemory) × (pass.new.kept ≡ pass.old.kept)) }
+        ensures err { IfErr result (λ cause. (cause ≡ Refusal.NoMemory) × (pass.new ≡ pass.old)) }
     {
         self.work(rt, pass, Actor::Control, commands)
     }
@@ -438,7 +433,7 @@ impl<L: Opened, D: SharedDevice> Live<L, D> {
     /// Runs the daemon's command where fewer frames than the low mark are free, then not again before as many
     /// were free; and once more after [`Live::stop`] (kernel: `kswapd`).
     pub fn daemon<R: Wait>(&self, rt: &R, pass: &mut Pass<L>)
-        ensures works { Repeated L.opening.watermarks Actor.Daemon Command.Daemon pass.old.kept pass.new.kept }
+        ensures works { Repeated L.opening.watermarks Actor.Daemon Command.Daemon pass.old.exchanges pass.new.exchanges }
         ensures share { KeepsShare pass.old.kept pass.new.kept }
         ensures known { strange pass.new.kept ≡ 0 }
         ensures rest { has_share pass.old.kept ≡ false → has_share pass.new.kept ≡ false }
@@ -467,7 +462,7 @@ impl<L: Opened, D: SharedDevice> Live<L, D> {
 
     /// One run of the daemon's command.
     fn balance<R: Wait>(&self, rt: &R, pass: &mut Pass<L>)
-        ensures done { Done L.opening.watermarks Actor.Daemon Command.Daemon pass.old.kept pass.new.kept }
+        ensures done { Done L.opening.watermarks Actor.Daemon Command.Daemon pass.old.exchanges pass.new.exchanges }
         ensures caller { pass.new.caller ≡ pass.old.caller }
         ensures share { Carries pass.old.kept 0 pass.new.kept 0 }
     {

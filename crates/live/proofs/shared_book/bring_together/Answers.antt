@@ -13,7 +13,7 @@ loop-pass-preserved g c =
     let view = c.loop-pass.ending.view in
     let first = c.args.ending.view in
     let pass = c.in-Some.pass in
-    let rows = row pass.caller.worker pass.kept ∷ [] in
+    let rows = row pass.caller.worker pass.exchanges ∷ [] in
     let left = c.pop.new.self.items in
     let now : c.take.new.self.view ≡ record view { rows = rows ++ view.rows } =
     ap (λ (e : EndingOf). e.view) c.take.ensures ∙ (ap (λ (v : View). joined view v) (ap (λ m. m.0) c.into_front.ensures.front) ∙ joined-rows view rows) in

@@ -1,5 +1,5 @@
 use Rattle.std.proofs.Common.{rules, ◌≡◌, false, sym, subst}
-use Rattle.book.specs.Passes.{PassOf}
+use Rattle.live.specs.Passes.{PassOf}
 use Rattle.live.specs.Matching.{has_share}
 use Rattle.live.specs.Shares.{strange}
 use Rattle.live.proofs.RowLemmas.{repeated_more}

@@ -8,7 +8,7 @@ pub returns-in-Err-clause-runs : goal.returns-in-Err-clause-runs
 returns-in-Err-clause-runs g c = record {
   added = [];
   said = answer_by c.args.actor (answer.Word (word.Refused c.in-Err.why));
-  keeps = sym (append-nil c.args.pass.now.kept);
+  keeps = sym (append-nil c.args.pass.now.exchanges);
   tells = c.push_reserved.ensures.items;
   runs = rw c.in-Err.is (refl, refl);
 }

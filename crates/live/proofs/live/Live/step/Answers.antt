@@ -1,7 +1,7 @@
 use Rattle.std.proofs.Common.{rules, ◌≡◌, ◌∷◌, ◌++◌, [], List, sym, ap, ◌∙◌, append-nil, false, subst}
 use Rattle.machine.specs.declared.command.Reply.{Reply as Told_by}
-use Rattle.book.specs.declared.kept.Kept.{Kept}
 use Rattle.turns.specs.Tickets.{holds}
+use Rattle.live.specs.declared.history.Exchange.{Exchange}
 use Rattle.live.specs.Hands.{HasStage}
 use Rattle.live.proofs.RowLemmas.{linked, closed_none}
 use Rattle.live.proofs.StageLemmas.{has-resumed, linked-has}
@@ -21,13 +21,13 @@ returns-in-Ok-Waits-clause-goes g c =
     linked _ _ _ _ _ _ _ _ _ _ [] c.ready.ensures.kept.0 c.in-Ok-Waits.ensures.made (search rules) (c.ready.ensures.answers.0 ∙ sym (append-nil c.args.answers.now.items))
 
 pub turn-requires-clause-hand : goal.turn-requires-clause-hand
-turn-requires-clause-hand g c = subst (λ (l : List Kept). HasStage l c.args.stage) (sym c.ready.ensures.kept.0) c.requires.hand
+turn-requires-clause-hand g c = subst (λ (l : List Exchange). HasStage l c.args.stage) (sym c.ready.ensures.kept.0) c.requires.hand
 
 pub returns-in-Ok-Goes-clause-hand : goal.returns-in-Ok-Goes-clause-hand
 returns-in-Ok-Goes-clause-hand g c = linked-has _ _ _ _ _ _ _ _ (returns-in-Ok-Goes-clause-goes g c) c.requires.hand
 
 pub returns-in-Ok-Kills-clause-hand : goal.returns-in-Ok-Kills-clause-hand
-returns-in-Ok-Kills-clause-hand g c = subst (HasStage c.turn.new.pass.kept) (sym c.resumes_at.ensures.at) (has-resumed c.turn.new.pass.kept c.in-Ok-Kills.resume)
+returns-in-Ok-Kills-clause-hand g c = subst (HasStage c.turn.new.pass.exchanges) (sym c.resumes_at.ensures.at) (has-resumed c.turn.new.pass.exchanges c.in-Ok-Kills.resume)
 
 pub returns-in-Ok-Waits-clause-hand : goal.returns-in-Ok-Waits-clause-hand
-returns-in-Ok-Waits-clause-hand g c = subst (HasStage c.turn.new.pass.kept) (sym c.resumes_at-in-Ok-Waits.ensures.at) (has-resumed c.turn.new.pass.kept c.in-Ok-Waits.resume)
+returns-in-Ok-Waits-clause-hand g c = subst (HasStage c.turn.new.pass.exchanges) (sym c.resumes_at-in-Ok-Waits.ensures.at) (has-resumed c.turn.new.pass.exchanges c.in-Ok-Waits.resume)

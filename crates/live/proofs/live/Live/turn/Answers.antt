@@ -11,4 +11,4 @@ ask_book-requires-clause-own g c =
     subst (OwnWant worker blocks) c.in-Call.is (c.ask.ensures.own worker blocks c.requires.own)
 
 pub ask_book-requires-clause-hand : goal.ask_book-requires-clause-hand
-ask_book-requires-clause-hand g c = subst (HasWant c.args.pass.now.kept) (sym c.ask.ensures.wants ∙ c.in-Call.is) (has-want c.args.self.now.marks c.free_for-free.result c.args.pass.now.kept c.args.stage c.requires.hand)
+ask_book-requires-clause-hand g c = subst (HasWant c.args.pass.now.exchanges) (sym c.ask.ensures.wants ∙ c.in-Call.is) (has-want c.args.self.now.marks c.free_for-free.result c.args.pass.now.exchanges c.args.stage c.requires.hand)

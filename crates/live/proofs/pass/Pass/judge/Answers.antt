@@ -1,42 +1,76 @@
-use Rattle.std.proofs.Common.{rules, ℕ, List, length, drop, ◌≡◌, ◌∙◌, ap}
+use Rattle.std.proofs.Common.{rules, ℕ, List, ◌≡◌, ◌∙◌, ◌++◌, map, sym, ap, subst}
 use Rattle.machine.specs.Call.{Caller}
-use Rattle.book.specs.declared.kept.Kept.{Kept}
+use Rattle.machine.specs.Tree.{find_group}
 use Rattle.book.specs.Passes.{PassOf}
 use Rattle.turns.specs.Turns.{paths_of}
-use Rattle.turns.specs.Finds.{looking}
+use Rattle.live.specs.declared.history.Exchange.{Exchange}
+use Rattle.live.specs.Exchanges.{kept_of}
+use Rattle.live.specs.Passes.{PassOf as Shown, pass_of}
+use Rattle.live.specs.Runs.{Looked}
+use Rattle.live.specs.Shares.{Carries}
 use Rattle.live.specs.Told.{telling}
-use Rattle.live.specs.Rules.{kept_in}
+use Rattle.live.specs.Rules.{exchanges_in}
 use Rattle.live.specs.Shared.{found_in}
 use Rattle.live.proofs.RowLemmas.{looked, looking-kept, looking-caller}
-use Rattle.live.proofs.SharedLemmas.{noted-finds}
+use Rattle.live.proofs.ShareLemmas.{carries-looked, looked-strange}
+use Rattle.live.proofs.SharedLemmas.{new-looked, seated-so, seated-own, whole-more}
 use Rattle.live.proofs.pass.Pass.judge.Goals as goal
 
 pub returns-clause-looked : goal.returns-clause-looked
 returns-clause-looked g c =
     let tree = c.args.book.now.state.tree in
     let paths = paths_of c.args.actor c.args.command.now in
-    let same : c.self.inside.pass ≡ c.args.self.now = search rules in
-    looked tree c.args.actor c.args.command.now c.args.self.now c.judge.new.pass c.in_ok-judged.judged (c.in_ok-judged.ensures.looked ∙ ap (looking tree paths) same) c.in_ok-judged.ensures.judged
+    let old = c.self.inside.pass in
+    let known = exchanges_in c.self.inside.front.me.0.rows in
+    let kept = ap (λ (p : PassOf). p.kept) c.in_ok-judged.ensures.looked ∙ looking-kept tree paths old in
+    let more = new-looked known old.kept c.judge.new.pass.kept tree paths c.self.invariant.2 kept in
+    let after = seated-so c.note.new.front.me c.judge.new.pass.caller.worker _ c.note.ensures.front.1 ∙ ap (λ (l : List Exchange). known ++ l) more in
+    let same : pass_of old known ≡ c.args.self.now = search rules in
+    subst (λ (p : Shown). Looked c.args.actor c.args.command.now p.exchanges (exchanges_in c.note.new.front.me.0.rows) c.in_ok-judged.judged) same
+    (looked tree c.args.actor c.args.command.now known (exchanges_in c.note.new.front.me.0.rows) c.in_ok-judged.judged after c.in_ok-judged.ensures.judged)
+
+pub returns-clause-share : goal.returns-clause-share
+returns-clause-share g c =
+    let tree = c.args.book.now.state.tree in
+    let paths = paths_of c.args.actor c.args.command.now in
+    let old = c.self.inside.pass in
+    let same : pass_of old (exchanges_in c.self.inside.front.me.0.rows) ≡ c.args.self.now = search rules in
+    subst (λ (p : Shown). Carries p.kept 0 c.judge.new.pass.kept 0) same
+    (carries-looked paths (map (find_group tree) paths) old.kept c.judge.new.pass.kept (ap (λ (p : PassOf). p.kept) c.in_ok-judged.ensures.looked ∙ looking-kept tree paths old))
 
 pub returns-clause-caller : goal.returns-clause-caller
 returns-clause-caller g c =
     let tree = c.args.book.now.state.tree in
     let paths = paths_of c.args.actor c.args.command.now in
-    let same : c.self.inside.pass ≡ c.args.self.now = search rules in
-    ap (λ (p : PassOf). p.caller) c.in_ok-judged.ensures.looked ∙ (looking-caller tree paths c.self.inside.pass ∙ ap (λ (p : PassOf). p.caller) same)
+    let same : pass_of c.self.inside.pass (exchanges_in c.self.inside.front.me.0.rows) ≡ c.args.self.now = search rules in
+    ap (λ (p : PassOf). p.caller) c.in_ok-judged.ensures.looked ∙ (looking-caller tree paths c.self.inside.pass ∙ ap (λ (p : Shown). p.caller) same)
 
 pub returns-clause-log : goal.returns-clause-log
 returns-clause-log g c =
     let tree = c.args.book.now.state.tree in
     let paths = paths_of c.args.actor c.args.command.now in
     let old = c.self.inside.pass in
-    let same : old ≡ c.args.self.now = search rules in
-    let now : c.judge.new.pass ≡ looking tree paths old = c.in_ok-judged.ensures.looked in
-    let kept = ap (λ (p : PassOf). p.kept) now ∙ looking-kept tree paths old in
-    let worker = ap (λ (p : PassOf). p.caller.worker) now ∙ (ap (λ (c : Caller). c.worker) (looking-caller tree paths old) ∙ ap (λ (p : PassOf). p.caller.worker) same) in
-    let front = c.self.inside.front.me.0.rows in
-    let was : kept_in front ≡ old.kept = ap (λ m. kept_in m.0.rows) c.self.invariant.1 in
-    let more : drop (length (kept_in front)) c.judge.new.pass.kept ≡ found_in tree paths = ap (drop (length (kept_in front))) kept ∙ noted-finds (kept_in front) old.kept (found_in tree paths) was in
+    let log = c.args.log.now in
+    let known = exchanges_in c.self.inside.front.me.0.rows in
+    let kept = ap (λ (p : PassOf). p.kept) c.in_ok-judged.ensures.looked ∙ looking-kept tree paths old in
+    let same : pass_of old known ≡ c.args.self.now = search rules in
+    let worker = ap (λ (p : PassOf). p.caller.worker) c.in_ok-judged.ensures.looked ∙ (ap (λ (c : Caller). c.worker) (looking-caller tree paths old) ∙ ap (λ (p : Shown). p.caller.worker) same) in
+    let more = new-looked known old.kept c.judge.new.pass.kept tree paths c.self.invariant.2 kept in
     c.note.ensures.log
-    ∙ (ap (λ (l : List Kept). record c.args.log.now { log = telling c.judge.new.pass.caller.worker l c.args.log.now.log }) more
-    ∙ ap (λ (n : ℕ). record c.args.log.now { log = telling n (found_in tree paths) c.args.log.now.log }) worker)
+    ∙ (ap (λ (l : List Exchange). record log { log = telling c.judge.new.pass.caller.worker l log.log }) more
+    ∙ ap (λ (n : ℕ). record log { log = telling n (found_in tree paths) log.log }) worker)
+
+pub invariant_of-self-2 : goal.invariant_of-self-2
+invariant_of-self-2 g c =
+    let tree = c.args.book.now.state.tree in
+    let paths = paths_of c.args.actor c.args.command.now in
+    let old = c.self.inside.pass in
+    let known = exchanges_in c.self.inside.front.me.0.rows in
+    let kept = ap (λ (p : PassOf). p.kept) c.in_ok-judged.ensures.looked ∙ looking-kept tree paths old in
+    let more = new-looked known old.kept c.judge.new.pass.kept tree paths c.self.invariant.2 kept in
+    let after = seated-so c.note.new.front.me c.judge.new.pass.caller.worker _ c.note.ensures.front.1 ∙ ap (λ (l : List Exchange). known ++ l) more in (
+      c.note.ensures.front.0 ∙ c.requires.of_these,
+      seated-own c.note.new.front.me c.judge.new.pass.caller.worker _ c.note.ensures.front.1,
+      ap (map kept_of) after ∙ (whole-more known (found_in tree paths) old.kept c.self.invariant.2 ∙ sym kept),
+      looked-strange paths (map (find_group tree) paths) old.kept c.judge.new.pass.kept kept c.self.invariant.3,
+    )
