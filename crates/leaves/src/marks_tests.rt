@@ -1,11 +1,11 @@
 //! What no clause says: each call once, threads that really run at the same time, and a caller who is alone.
 
-ghost use Rattle.std.specs.Prelude.{◌≡◌, ℕ, ◌+◌, ◌/◌, ◌%◌, ◌^◌, ◌<◌, ◌≤◌, ◌==◌, if◌then◌else◌, All};
+ghost use Rattle.std.specs.Prelude.{◌≡◌, ℕ, ◌+◌, ◌/◌, ◌%◌, ◌^◌, ◌<◌, ◌≤◌, ◌==◌, if◌then◌else◌, All, OnOk};
 ghost use Rattle.std.specs.Int.{bit_at};
 ghost use Rattle.marks.specs.Logs.{IsHarvested};
 
 use marks::{Found, Marks, Seat};
-use std::alloc::AllocError;
+use std::alloc::{AllocError, Global};
 use std::test::Fail;
 use std::thread;
 use std::thread::Threads;
@@ -24,6 +24,7 @@ enum Work {
 #[derive(Drop)]
 struct Job {
     work: Work,
+    rounds: u32,
     seat: Seat,
 }
 
@@ -65,9 +66,13 @@ fn counts_of(marks: &Marks, job: Job) -> Counts
     requires frames { marks.now.frames ≡ 256 }
     requires of_these { job.seat.table ≡ marks.now.table }
 {
-    let Job { work, mut seat } = job;
+    let Job {
+        work,
+        rounds,
+        mut seat,
+    } = job;
     let mut counts = [0; FRAMES];
-    for _round in 0..1000u32 {
+    for _round in 0..rounds {
         match work {
             Work::Set => set_each(marks, &mut seat, &mut counts),
             Work::Harvest => harvest_each(marks, &mut seat, &mut counts),
@@ -80,6 +85,7 @@ fn add_job(
     marks: &Marks,
     first: &mut Seat,
     work: Work,
+    rounds: u32,
     jobs: &mut Vec<Job>,
 ) -> Result<(), AllocError>
     requires parts { 2 ≤ first.old.log.parts }
@@ -90,8 +96,17 @@ fn add_job(
     ensures jobs { All (λ j. j.seat.table ≡ marks.now.table) jobs.new.items }
 {
     let seat = marks.seat(first);
-    jobs.push(Job { work, seat })?;
+    jobs.push(Job { work, rounds, seat })?;
     Ok(())
+}
+
+/// What the threads count of the frame together.
+fn total(counts: &[Counts], frame: usize) -> u32
+    requires { frame < 256 }
+{
+    counts
+        .iter()
+        .fold(0u32, |sum, by_thread| sum.wrapping_add(by_thread[frame]))
 }
 
 /// Does each job on a thread of its own.
@@ -116,12 +131,12 @@ fn do_all<R: Threads + Sync>(
 fn no_mark_is_lost_or_taken_twice(rt: HostRuntime) -> Result<(), Fail> {
     let (marks, mut first) = Marks::open(rt.alloc(), FRAMES as u32)?;
     let mut jobs = Vec::new(rt.alloc());
-    add_job(&marks, &mut first, Work::Set, &mut jobs)?;
-    add_job(&marks, &mut first, Work::Harvest, &mut jobs)?;
-    add_job(&marks, &mut first, Work::Set, &mut jobs)?;
-    add_job(&marks, &mut first, Work::Set, &mut jobs)?;
-    add_job(&marks, &mut first, Work::Harvest, &mut jobs)?;
-    add_job(&marks, &mut first, Work::Set, &mut jobs)?;
+    add_job(&marks, &mut first, Work::Set, 1000, &mut jobs)?;
+    add_job(&marks, &mut first, Work::Harvest, 1000, &mut jobs)?;
+    add_job(&marks, &mut first, Work::Set, 1000, &mut jobs)?;
+    add_job(&marks, &mut first, Work::Set, 1000, &mut jobs)?;
+    add_job(&marks, &mut first, Work::Harvest, 1000, &mut jobs)?;
+    add_job(&marks, &mut first, Work::Set, 1000, &mut jobs)?;
     let counts = do_all(&rt, &marks, jobs)?;
     let mut words = [0; 4];
     for word in 0..4u32 {
@@ -129,11 +144,64 @@ fn no_mark_is_lost_or_taken_twice(rt: HostRuntime) -> Result<(), Fail> {
     }
     for frame in 0..FRAMES {
         let left = ((words[frame / 64] >> (frame % 64) as u32) & 1) as u32;
-        let set = counts
-            .iter()
-            .fold(0u32, |sum, by_thread| sum.wrapping_add(by_thread[frame]));
-        assert_eq!(rt; set, left);
+        assert_eq!(rt; total(&counts, frame), left);
     }
+    Ok(())
+}
+
+/// Has four threads do the work once at the same time, each with a seat of its own.
+fn four_at_once<R: Threads + Sync>(
+    rt: &R,
+    alloc: Global,
+    marks: &Marks,
+    first: &mut Seat,
+    work: Work,
+) -> Result<Vec<Counts>, AllocError>
+    requires frames { marks.now.frames ≡ 256 }
+    requires parts { 5 ≤ first.old.log.parts }
+    requires of_these { first.old.table ≡ marks.now.table }
+    ensures parts { OnOk result (first.new.log.parts + 4 ≡ first.old.log.parts) }
+    ensures of_these { OnOk result (first.new.table ≡ first.old.table) }
+{
+    let mut jobs = Vec::new(alloc);
+    add_job(marks, first, work, 1, &mut jobs)?;
+    add_job(marks, first, work, 1, &mut jobs)?;
+    add_job(marks, first, work, 1, &mut jobs)?;
+    add_job(marks, first, work, 1, &mut jobs)?;
+    do_all(rt, marks, jobs)
+}
+
+/// One thread of four marked each frame, and one of four took its mark.
+fn mark_and_take<R: Threads + Sync>(
+    rt: &R,
+    alloc: Global,
+    marks: &Marks,
+    first: &mut Seat,
+) -> Result<bool, AllocError>
+    requires frames { marks.now.frames ≡ 256 }
+    requires parts { 9 ≤ first.old.log.parts }
+    requires of_these { first.old.table ≡ marks.now.table }
+    ensures parts { OnOk result (first.new.log.parts + 8 ≡ first.old.log.parts) }
+    ensures of_these { OnOk result (first.new.table ≡ first.old.table) }
+{
+    let set = four_at_once(rt, alloc, marks, first, Work::Set)?;
+    let taken = four_at_once(rt, alloc, marks, first, Work::Harvest)?;
+    let mut each_once = true;
+    for frame in 0..FRAMES {
+        if total(&set, frame) != 1 || total(&taken, frame) != u32::MAX {
+            each_once = false;
+        }
+    }
+    Ok(each_once)
+}
+
+#[test]
+fn a_frame_is_marked_again_after_each_harvest(rt: HostRuntime) -> Result<(), Fail> {
+    let alloc = rt.alloc();
+    let (marks, mut first) = Marks::open(alloc, FRAMES as u32)?;
+    assert!(rt; mark_and_take(&rt, alloc, &marks, &mut first)?);
+    assert!(rt; mark_and_take(&rt, alloc, &marks, &mut first)?);
+    assert!(rt; mark_and_take(&rt, alloc, &marks, &mut first)?);
     Ok(())
 }
 

@@ -1,4 +1,5 @@
 pub mod ByteLemmas
+pub mod PathLemmas
 pub mod ResultLemmas
 pub mod StartLemmas
 pub mod StrictLemmas

@@ -1,4 +1,5 @@
 pub mod Asked
+pub mod Paths
 pub mod Prints
 pub mod SinkLaws
 pub mod Sinks

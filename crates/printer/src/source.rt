@@ -1,7 +1,12 @@
 //! Where the steps of a run come from.
 
+ghost use Rattle.std.specs.Prelude.{◌≡◌, ◌∷◌, [], map, IfOk, IfSome, IfNone};
+ghost use Rattle.std.specs.List.{filter_map};
+ghost use Rattle.schedules.specs.Schedule.{steps_of_entry};
+ghost use Rattle.printer.specs.Paths.{path_begun, paths_in};
+
 use crate::options::Options;
-use driver::{Command, Schedule};
+use driver::{Command, Entry, Schedule, Step};
 use indexmap::IndexSet;
 use std::alloc::{AllocError, Global};
 use std::str;
@@ -89,14 +94,28 @@ fn lines_of(alloc: Global, script: &[u8]) -> Result<Vec<Line<'_>>, AllocError> {
     Ok(lines)
 }
 
-/// The paths of all groups that the steps make, each once, in order of their lines.
-pub fn paths_of(alloc: Global, schedule: &Schedule) -> Result<Vec<&str>, AllocError> {
+/// The path of the group that the line makes, if it makes one.
+fn path_made(entry: &Entry) -> Option<&str>
+    ensures made { IfSome result (λ path. filter_map path_begun (steps_of_entry entry.now) ≡ path.now ∷ []) }
+    ensures other { IfNone result (filter_map path_begun (steps_of_entry entry.now) ≡ []) }
+{
+    match entry {
+        Entry::Whole(_, Command::Group(path)) | Entry::Step(Step::Begin(_, Command::Group(path))) =>
+            Some(path.as_str()),
+        _ => None,
+    }
+}
+
+/// The paths of all groups that the steps make, each once, in the order in which they are first made.
+pub fn paths_of(alloc: Global, schedule: &Schedule) -> Result<Vec<&str>, AllocError>
+    ensures { IfOk result (λ paths. map (λ p. p.now) paths.items ≡ paths_in schedule.now.steps) }
+{
     let mut known = IndexSet::new(alloc);
     let mut paths = Vec::new(alloc);
     for line in schedule.lines() {
-        if let Some((_, Command::Group(path))) = line.entry.begins() {
-            if known.insert(path.as_str())? {
-                paths.push(path.as_str())?;
+        if let Some(path) = path_made(&line.entry) {
+            if known.insert(path)? {
+                paths.push(path)?;
             }
         }
     }
