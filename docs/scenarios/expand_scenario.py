@@ -12,6 +12,7 @@ the lengths, and prints who is killed and what each `show` and `expect` says. A 
 import argparse
 import itertools
 import math
+import os
 import re
 import sys
 from dataclasses import dataclass, field
@@ -708,6 +709,8 @@ def main():
         return self_test.main()
     if options.file is None:
         parser.error('FILE is missing')
+    if options.run and not os.access(options.run, os.X_OK):
+        parser.error(f'--run: there is no program {options.run}; name one, as "$(dist/take program)" does')
     try:
         with open(options.file, 'rb') as file:
             items = read_scenario(file.read())
@@ -723,7 +726,7 @@ def main():
         return 0
     except Fault as fault:
         print(f'{options.file}:{fault}', file=sys.stderr)
-    except ValueError as error:
+    except (OSError, ValueError) as error:
         print(f'{options.file}: {error}', file=sys.stderr)
     return 1
 
