@@ -83,8 +83,8 @@ impl State {
         self.parts.pages.write(page, offset as usize, byte);
     }
 
-    /// Marks the pages that are held in the frames of these bits as accessed: bit b belongs to frame `64 * word + b`
-    /// (kernel: a walk over the accessed bits of page tables, `walk_mm`). Allocates no memory.
+    /// Marks the pages that are held in the frames of these bits as accessed (kernel: a walk over the accessed bits
+    /// of page tables, `walk_mm`). Bit b belongs to frame `64 * word + b`. Allocates no memory.
     pub fn merge_marks(&mut self, word: u32, bits: u64)
         ensures { MergesFrames self.old self.new word bits }
     {

@@ -180,9 +180,9 @@ impl Parts {
         ticket
     }
 
-    /// Ends the read of the page in this way. Either it is in its frame, with the bytes that the ticket read, and
-    /// in the generation that the placement chooses; or it is on its block, and uncharged. Returns the ticket's
-    /// bytes. Allocates no memory.
+    /// Ends the read-in of the page in this way. If it ends in its frame, the page has the bytes that the ticket
+    /// read, and enters the generation that the placement chooses. If it ends on its block, the page is uncharged.
+    /// Returns the ticket's bytes. Allocates no memory.
     pub fn settle_in(
         &mut self,
         page: PageId,
@@ -222,8 +222,8 @@ impl Parts {
         PageBytes::new(buffer)
     }
 
-    /// Ends the write of the page in this way. Either it is on its block, and uncharged; or it is in its frame,
-    /// unchanged, and in the youngest generation. Allocates no memory.
+    /// Ends the write-out of the page in this way. If it ends on its block, the page is uncharged. If it ends in
+    /// its frame, the page is unchanged, and enters the youngest generation. Allocates no memory.
     pub fn settle_out(&mut self, page: PageId, ticket: OutTicket, end: End, placement: Placement)
         requires agree { PartsAgree self.old }
         requires stands { (label : Label) × (f b : ℕ) × HasResidence self.old.pages.pages page.0 label (residence.Going f b ticket.number) }

@@ -22,7 +22,7 @@ use machine::record::{Direction, Kind};
 use page_counter::Counters;
 use pages::{Carries, End, Freed, InTicket, Pages, Settled, Ticket};
 
-/// Gives the page the bytes that the ticket read, if its read ended in its frame.
+/// Gives the page the bytes that the ticket read, if its read-in ended in its frame.
 pub fn fill(pages: &mut Pages, page: PageId, ticket: &InTicket, end: End)
     requires { (label : Label) × (f b : ℕ) × HasResidence pages.old.pages page.0 label (residence.Coming f b ticket.now.number) }
     ensures filled { end ≡ End.InFrame → (o : ℕ) → byte_in pages.new.bytes page.0 o ≡ slice_index ticket.now.bytes o }

@@ -6,8 +6,8 @@ use machine::id::GroupId;
 use machine::record::Kind;
 use page_counter::Charge;
 
-/// Where a page is after its transfer. A read that succeeds and a write that fails end in its frame,
-/// the other two on its block.
+/// Where a page is after its transfer. A read-in that succeeds and a write-out that fails end in its
+/// frame, the other two on its block.
 #[derive(Clone, Copy)]
 pub enum End {
     /// In its frame.
