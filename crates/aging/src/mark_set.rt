@@ -7,8 +7,8 @@ use machine::id::PageId;
 use std::alloc::{AllocError, Global};
 use std::marker::Model;
 
-/// For each page whether it is marked as accessed (kernel: the accessed bit of its mappings). It has its full size from
-/// the beginning, and each call takes constant time.
+/// For each page, whether it is marked as accessed (kernel: the accessed bit of its mappings). It has its full size
+/// from the beginning, and each call takes constant time.
 ///
 /// A contract sees the marks as a list by page number.
 #[derive(Drop)]
@@ -25,7 +25,7 @@ impl Model for MarkSet {
 }
 
 impl MarkSet {
-    /// So many pages, none of them marked. `AllocError` where there is no memory for their marks.
+    /// This many pages, none of them marked. `AllocError` if there is no memory for their marks.
     pub fn open(alloc: Global, pages: usize) -> Result<Self, AllocError>
         ensures { IfOk result (λ marks. marks ≡ replicate pages false) }
     {
@@ -34,7 +34,7 @@ impl MarkSet {
         })
     }
 
-    /// Nothing is done: there are less than 2^63 marks.
+    /// Does nothing. The contract states that there are fewer than 2^63 marks.
     pub fn is_bounded(&self)
         ensures { length self.now < 2 ^ 63 }
     {

@@ -11,8 +11,8 @@ use lru_gen::Gens;
 use machine::id::{GroupId, PageId};
 use machine::record::Kind;
 
-/// A new youngest generation of the group, of its marked pages, which lose their marks (kernel: inc_max_seq). It takes
-/// no memory.
+/// Begins a new youngest generation of the group, with its marked pages, which lose their marks (kernel: inc_max_seq).
+/// Allocates no memory.
 pub fn age(gens: &mut Gens, marks: &mut MarkSet, group: GroupId)
     requires group { group.0 < length gens.old.groups }
     requires marked { gens.old.pages ≤ length marks.old }
@@ -28,7 +28,7 @@ pub fn age(gens: &mut Gens, marks: &mut MarkSet, group: GroupId)
     promote(gens, marks, group, Kind::File);
 }
 
-/// Where a type has four generations, its oldest becomes part of the next (kernel: inc_min_seq).
+/// If a type has four generations, its oldest becomes part of the next (kernel: inc_min_seq).
 fn merge_if_four(gens: &mut Gens, group: GroupId, kind: Kind)
     requires { group.0 < length gens.old.groups }
     ensures { gens.new ≡ sets gens.old group.0 (on_row kind (at_most_three (gens_of gens.old group.0).max_seq) (gens_of gens.old group.0)) }
@@ -39,8 +39,8 @@ fn merge_if_four(gens: &mut Gens, group: GroupId, kind: Kind)
     }
 }
 
-/// The marked pages of a type go to the tail of its youngest generation, unmarked. The walk meets them again there and
-/// passes them by: it takes at most twice as many steps as there are pages.
+/// Moves the marked pages of a type to the tail of its youngest generation, unmarked. The walk meets them again there
+/// and skips them. Its number of steps is at most twice the number of the type's pages.
 fn promote(gens: &mut Gens, marks: &mut MarkSet, group: GroupId, kind: Kind)
     requires group { group.0 < length gens.old.groups }
     requires marked { gens.old.pages ≤ length marks.old }
@@ -50,7 +50,7 @@ fn promote(gens: &mut Gens, marks: &mut MarkSet, group: GroupId, kind: Kind)
     let mut next = gens.first(group, kind);
     while let Some(page) = next {
         gens.is_sound();
-        // The page behind is read before this one moves away from it.
+        // The code reads the next page before it moves this one.
         next = gens.after(group, kind, page);
         if !marks.is_marked(page) {
             continue;
@@ -59,7 +59,7 @@ fn promote(gens: &mut Gens, marks: &mut MarkSet, group: GroupId, kind: Kind)
     }
 }
 
-/// A page of the group goes to the tail of its type's youngest generation, unmarked. It takes no memory.
+/// Moves a page of the group to the tail of its type's youngest generation, unmarked. Allocates no memory.
 pub fn to_youngest(gens: &mut Gens, marks: &mut MarkSet, group: GroupId, page: PageId, kind: Kind)
     requires group { group.0 < length gens.old.groups }
     requires listed { is_listed (gens_of gens.old group.0) page.0 ≡ true }

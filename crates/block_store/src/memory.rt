@@ -11,13 +11,14 @@ use std::marker::Model;
 /// The byte that a failed write fills its block with.
 const SPOILED: u8 = 255;
 
-/// A block device in memory, some of whose calls fail. Which ones do is listed when it is made.
+/// A block device in memory. Its maker lists which calls fail.
 #[derive(Drop)]
 pub struct MemDevice {
     blocks: Vec<[u8; BLOCK_BYTES]>,
-    /// How many reads there have been, good and failed ones. At the greatest `u64` it stays.
+    /// How many reads were made, including failed ones. It stays at the largest `u64` once it is
+    /// reached.
     reads: u64,
-    /// How many writes, likewise.
+    /// How many writes were made, counted in the same way.
     writes: u64,
     /// Which reads fail, counted from 1.
     read_faults: Vec<u64>,
@@ -44,11 +45,11 @@ impl Model for MemDevice {
 }
 
 impl MemDevice {
-    /// So many blocks of zeros. The listed reads and the listed writes fail, counted from 1, reads and
-    /// writes apart. A number that is listed twice fails once, and counts twice for the fault limit,
-    /// which is the length of both lists together. A count at the greatest `u64` stays there and fails
-    /// nothing. A failed write fills its block with bytes of 255. `AllocError` where there is no memory
-    /// for the blocks or the lists.
+    /// This many blocks of zeros. The listed reads and the listed writes fail, counted from 1, reads
+    /// and writes apart. A number that is listed twice fails once, and counts twice for the fault
+    /// limit, which is the length of both lists together. A count at the largest `u64` stays there, and
+    /// no further call fails. A failed write fills its block with bytes of 255. `AllocError` if there
+    /// is no memory for the blocks or the lists.
     pub fn new(
         alloc: Global,
         blocks: u32,
@@ -92,7 +93,7 @@ impl BlockDevice for MemDevice {
         ensures write { WritesBlock self.old block from.now result self.new }
         ensures blocks { length self.new.contents ≡ length self.old.contents }
         ensures limit { self.new.fault_limit ≡ self.old.fault_limit }
-        // A write that fails fills its block with one byte.
+        // A failed write fills its block with one byte.
         ensures spoiled { OnErr result (bytes_on self.new.contents block ≡ replicate BLOCK_BYTES 255) }
     {
         if strikes(&mut self.writes, &self.write_faults) {
@@ -113,7 +114,7 @@ impl BlockDevice for MemDevice {
     }
 }
 
-/// Counts a call, and tells whether it is one of those that fail.
+/// Counts a call, and returns whether it is one of those that fail.
 fn strikes(calls: &mut u64, faults: &[u64]) -> bool
     ensures counted { calls.new ≡ counted calls.old }
     ensures listed { result ≡ is_listed faults.now calls.old }

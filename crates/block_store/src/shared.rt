@@ -5,13 +5,14 @@ ghost use Rattle.std.specs.Prelude.{◌≡◌, ℕ, ◌<◌, length};
 use crate::device::{BLOCK_BYTES, BlockDevice, Fault};
 use std::sync::{Mutex, Wait};
 
-/// A device whose calls several workers make at once. Any call may fail. Of what it holds nothing is promised,
-/// since nothing is seen to change behind a shared reference; who wants to know audits what was read.
+/// A device that several workers call at once. Any call may fail. Contracts promise nothing about its
+/// contents, since no change through a shared reference is visible to them. An audit of the bytes that were
+/// read checks them.
 pub trait SharedDevice {
     /// How many blocks there are.
     ghost extent: { Self → ℕ };
 
-    /// How many blocks there are. This number stays.
+    /// How many blocks there are. This number never changes.
     fn blocks(&self) -> u32
         ensures { result ≡ extent self.now };
 
@@ -24,7 +25,7 @@ pub trait SharedDevice {
         requires { block < extent self.now };
 }
 
-/// A device under a lock of its own: one call at a time.
+/// A device under its own lock: one call at a time.
 #[derive(Drop)]
 pub struct Locked<D: BlockDevice + Drop> {
     device: Mutex<D>,
@@ -42,7 +43,7 @@ impl<D: BlockDevice + Drop> Locked<D> {
         }
     }
 
-    /// The device, with what the calls left in it.
+    /// The device, as the calls left it.
     pub fn into_inner(self) -> D {
         let Locked { device, blocks: _ } = self;
         device.into_inner()
@@ -56,7 +57,7 @@ impl<D: BlockDevice + Drop> SharedDevice for Locked<D> {
         self.blocks
     }
 
-    // No type says that the device under the lock still has as many blocks, so each call looks.
+    // No type states that the device under the lock still has the same number of blocks, so each call checks.
     fn read<R: Wait>(&self, rt: &R, block: u32, to: &mut [u8; BLOCK_BYTES]) -> Result<(), Fault> {
         let mut device = self.device.lock(rt);
         if block >= device.blocks() {

@@ -6,8 +6,8 @@ ghost use Rattle.counts.specs.Numbers.{times};
 use std::alloc::{AllocError, Global};
 use std::marker::Model;
 
-/// A swap slot: one block of the swap device, owned once (kernel: a swap entry). It is no `Drop`: it
-/// goes back to the slots that it came from, by [`Slots::give`].
+/// A swap slot: one block of the swap device, with one owner (kernel: a swap entry). It is not `Drop`:
+/// [`Slots::give`] returns it to the slots that it came from.
 #[must_use]
 pub struct Slot {
     block: u32,
@@ -20,7 +20,7 @@ impl Model for Slot {
 }
 
 impl Slot {
-    /// Which block it is.
+    /// The number of the block.
     pub fn block(&self) -> u32
         ensures { result ≡ self.now }
     {
@@ -28,12 +28,12 @@ impl Slot {
     }
 }
 
-/// The swap blocks that no page stands in (kernel: a swap area's free slots), and how many swap blocks
-/// there are in all. It is no `Drop`: it is closed, by [`Slots::close`], once all slots are back.
+/// The swap blocks without a page (kernel: a swap area's free slots), and the total number of swap
+/// blocks. It is not `Drop`: [`Slots::close`] closes it once all slots are back.
 #[must_use]
 pub struct Slots {
     free: Vec<u32>,
-    /// How many swap blocks there are, free ones and others. Their numbers are those below it.
+    /// The total number of swap blocks, free or in use. Their numbers are below it.
     blocks: u32,
 }
 
@@ -50,8 +50,8 @@ impl Model for Slots {
 }
 
 impl Slots {
-    /// So many swap blocks, numbered from 0 on, and all of them free; there may be none. `AllocError`
-    /// where there is no memory for the list of the free ones.
+    /// This many swap blocks, numbered from 0 on and all free. There may be none. `AllocError` if
+    /// there is no memory for the list of the free ones.
     pub fn open(alloc: Global, blocks: u32) -> Result<Slots, AllocError>
         ensures once { IfOk result (λ s. (n : ℕ) → n < blocks → times s.free n ≡ 1) }
         ensures none_beyond { IfOk result (λ s. (n : ℕ) → blocks ≤ n → times s.free n ≡ 0) }
@@ -70,8 +70,8 @@ impl Slots {
         self.free.len() as u32
     }
 
-    /// A free swap block, if there is one. Its bytes are what its last user left. It goes back by
-    /// [`Slots::give`].
+    /// A free swap block, if there is one. It has the bytes that its last user left. [`Slots::give`]
+    /// returns it.
     pub fn take(&mut self) -> Option<Slot>
         ensures none { IfNone result (length self.old.free ≡ 0) }
         ensures kept { IfNone result (self.new ≡ self.old) }
@@ -79,7 +79,7 @@ impl Slots {
         ensures fewer { OnSome result (length self.old.free ≡ length self.new.free + 1) }
         ensures blocks { self.new.blocks ≡ self.old.blocks }
 
-        // The block is no longer free, so that no two slots that are out have one number.
+        // The block is no longer free, so no two slots that are out have the same number.
         ensures out { IfSome result (λ s. times self.new.free s ≡ 0) }
         ensures in_range { IfSome result (λ s. s < self.old.blocks) }
     {
@@ -89,7 +89,7 @@ impl Slots {
         }
     }
 
-    /// Takes a slot back. This takes no memory.
+    /// Takes a slot back. Allocates no memory.
     pub fn give(&mut self, slot: Slot)
         requires out { times self.old.free slot ≡ 0 }
         requires in_range { slot < self.old.blocks }
@@ -101,7 +101,7 @@ impl Slots {
         self.free.push_reserved(block);
     }
 
-    /// The end of the slots, once all of them are free.
+    /// Closes the slots, once all of them are free.
     pub fn close(self)
         requires all { length self.free ≡ self.blocks }
     {

@@ -1,4 +1,4 @@
-//! What was decided is done: one change of the joined parts, and the answer.
+//! Carrying out a decision: one change of the joined parts, and the answer.
 
 ghost use Rattle.std.specs.Prelude.{◌≡◌, true, None, Some, IfOk, OnErr};
 ghost use Rattle.machine.specs.Tree.{is_live};
@@ -20,8 +20,8 @@ use page_state::{NoRoom, State};
 use reclaim::Served;
 use std::alloc::{AllocError, Global};
 
-/// Does what was decided. A ticket that it gives out is nobody's yet. `AllocError` where memory was wanted
-/// and refused, and then nothing changed.
+/// Carries out the decision. A ticket that it returns has no worker yet. `AllocError` if memory runs out,
+/// and then nothing has changed.
 pub fn apply(state: &mut State, alloc: Global, decided: Decision<'_>) -> Result<Reply, AllocError>
     requires few { AreFew state.old.tables }
     requires young { AreYoung state.old.order.held }
@@ -85,7 +85,7 @@ pub fn apply(state: &mut State, alloc: Global, decided: Decision<'_>) -> Result<
     }
 }
 
-/// An access by a live task, whose charge is granted if it needs one.
+/// An access by a live task. If it needs a charge, there is room for it.
 fn access(
     state: &mut State,
     alloc: Global,
@@ -142,7 +142,7 @@ fn hit(state: &mut State, fault: PageFault, page: PageId, frame: FrameId) -> Rep
     }
 }
 
-/// A charge is refused. Where a max is in its way, that is counted at the max's group.
+/// Refuses a charge. If a max has no room, `max` is counted at its group.
 fn refuse(state: &mut State, fault: PageFault, why: NoRoom) -> Reply
     requires few { AreFew state.old.tables }
     requires fault { IsFault state.old.tables fault }
@@ -159,8 +159,8 @@ fn refuse(state: &mut State, fault: PageFault, why: NoRoom) -> Reply
     }
 }
 
-/// The page that is next for the target leaves its frame: it begins to be written out, or is dropped. Where
-/// its group's low protects it, that is counted at the group.
+/// Evicts the next page for the target: its write-out begins, or it is dropped. If its group's low protects
+/// it, `low` is counted at the group.
 fn take(state: &mut State, target: GroupId, served: Served) -> Reply
     requires few { AreFew state.old.tables }
     requires young { AreYoung state.old.order.held }
@@ -175,8 +175,8 @@ fn take(state: &mut State, target: GroupId, served: Served) -> Reply
     }
 }
 
-/// Counts `low` at the group that is served, if its low is passed over (kernel: memcg_memory_event with
-/// MEMCG_LOW, in shrink_node_memcgs).
+/// Counts `low` at the group that is served, if the reclaim overrides its low (kernel: memcg_memory_event
+/// with MEMCG_LOW, in shrink_node_memcgs).
 fn count_low(state: &mut State, served: Served)
     requires few { AreFew state.old.tables }
     requires live { is_live state.old.tables.tree served.group.0 ≡ true }
@@ -187,7 +187,7 @@ fn count_low(state: &mut State, served: Served)
     }
 }
 
-/// Nothing can be reclaimed under the limit, and the task is killed for it, alone.
+/// Kills only this task, since nothing can be reclaimed under the limit.
 fn kill(state: &mut State, limit: GroupId, task: TaskId) -> Reply
     requires few { AreFew state.old.tables }
     requires sound { IsSound state.old.tables state.old.order (decision.Kill limit task) }
@@ -203,7 +203,7 @@ fn kill(state: &mut State, limit: GroupId, task: TaskId) -> Reply
     Reply::KilledTask(task)
 }
 
-/// Nothing can be reclaimed under the limit, and all tasks of the group are killed for it, at once (kernel:
+/// Kills all tasks of the group at once, since nothing can be reclaimed under the limit (kernel:
 /// oom_kill_process, mem_cgroup_scan_tasks with oom_kill_memcg_member).
 fn kill_all(state: &mut State, limit: GroupId, victim: TaskId, group: GroupId) -> Reply
     requires few { AreFew state.old.tables }
@@ -221,7 +221,7 @@ fn kill_all(state: &mut State, limit: GroupId, victim: TaskId, group: GroupId) -
     }
 }
 
-/// Another value for a setting of a group.
+/// Sets a new value for a setting of a group.
 fn set(state: &mut State, group: GroupId, setting: Setting) -> Reply
     requires { is_live state.old.tables.tree group.0 ≡ true }
     ensures { Carries state.old (decision.Set group setting) result state.new }
@@ -231,7 +231,7 @@ fn set(state: &mut State, group: GroupId, setting: Setting) -> Reply
     Reply::Ok
 }
 
-/// The numbers that are asked for.
+/// The requested numbers.
 fn shown(state: &State, query: Query) -> Shown
     requires { show_refusal state.now.tables query ≡ None }
     ensures { result ≡ shown_of state.now.tables query }

@@ -1,4 +1,4 @@
-//! The book: one event a call, and the history of what was answered.
+//! The book: one event in each call, and the history of events and replies.
 
 ghost use Rattle.std.specs.Prelude.{◌≡◌, ◌⊎◌, ℕ, ◌+◌, ◌<◌, ◌≤◌, ◌++◌, ◌∷◌, List, [], None, true, false, length, reverse, nat_lt, slice_index, slice_set, option_map, IfSome, IfOk, IfErr, OnOk, OnErr};
 ghost use Rattle.machine.specs.Tree.{find_group};
@@ -43,22 +43,21 @@ use std::alloc::{AllocError, Global};
 use std::marker::Model;
 use trace::Trace;
 
-/// The groups, pages and tasks of one machine, with the history of what was asked and answered.
+/// The groups, pages and tasks of one machine, with the history of events and replies.
 ///
-/// A contract sees it as its past: the machine's state, the history with the newest entry first, the
-/// order in which pages are taken, and how many passes were given out. The history is always legal, so it
-/// leads from the opening to that state by steps of the plain machine; and where each page that arrived
-/// brought what was last written, whatever the files had at first, it is right, so each read in it gave the
-/// last write.
+/// A contract sees it as its past: the machine's state, the history with the newest entry first, the order in which
+/// pages are evicted, and how many passes were handed out. The history is always legal: it leads from the opening to
+/// that state by steps of the plain machine. The history is right if each page that arrived brought what was last
+/// written, whatever the files contained at first. Then each read in it returned the last write.
 ///
-/// A book must be spent, by [`Book::close`].
+/// [`Book::close`] must spend a book.
 pub struct Book {
     alloc: Global,
     pub(crate) state: State,
     trace: Trace,
     /// How many entries each worker has.
     counts: Vec<u64>,
-    /// By page number, the worker who took the ticket of the page's transfer, while it is in transfer.
+    /// By page number: the worker who has the ticket of the page's transfer, while the page is in transfer.
     takers: Vec<WorkerId>,
 }
 
@@ -75,11 +74,10 @@ impl Model for Book {
 }
 
 impl Book {
-    /// A book with the root group alone, all frames and all swap blocks free. Its trace has all its room
-    /// from here.
+    /// A book with only the root group, and with all frames and all swap blocks free. All room of its trace is
+    /// allocated here.
     ///
-    /// `Invalid` where the configuration is out of its limits, and otherwise `NoMemory` where memory
-    /// is refused.
+    /// `Invalid` if the configuration is out of its limits, and otherwise `NoMemory` if memory runs out.
     pub fn open(alloc: Global, config: Config) -> Result<Book, Refusal>
         ensures opens { IfOk result (λ b. b ≡ first_past (opening_of config)) }
         ensures sized { IfOk result (λ b. is_config config ≡ true) }
@@ -111,8 +109,8 @@ impl Book {
         })
     }
 
-    /// A pass for one worker more. `NoSpace` where 131,072 were given out, and otherwise `NoMemory`
-    /// where memory is refused; nothing changes then.
+    /// A pass for another worker. `NoSpace` if 131,072 were handed out, and otherwise `NoMemory` if memory runs out.
+    /// Nothing changes then.
     pub fn pass(&mut self) -> Result<Pass, Refusal>
         ensures pass { IfOk result (λ pass. pass.caller.worker ≡ self.old.passes) }
         ensures kept { IfOk result (λ pass. pass.kept ≡ []) }
@@ -133,16 +131,17 @@ impl Book {
         Ok(Pass::new(self.alloc, WorkerId(worker)))
     }
 
-    /// One event, asked with a pass, which keeps it with its answer.
+    /// Handles one event, requested with a pass. The pass keeps the event with its answer.
     ///
-    /// Either it is refused, for the first cause that stands, and nothing changes but what the pass keeps; or it
-    /// is one step of the machine and exactly one entry more, the worker's next. A refused ticket comes back.
+    /// Either the event is refused, for the first cause that applies, and only what the pass keeps changes. Or it is
+    /// one step of the machine and adds exactly one entry, the worker's next. A refused ticket is handed back.
     ///
-    /// [`Event::MergeMarks`] is a hint: it is never refused, leaves no entry, is not kept by the pass, and
-    /// changes nothing but which pages are marked.
+    /// [`Event::MergeMarks`] is a hint: it is never refused, leaves no entry, and the pass does not keep it. It
+    /// changes only which pages are marked.
     ///
-    /// Else a pass that is not current is refused as `Stranger`: one that this book did not give out, or one that has
-    /// not as many answers as its worker has entries. The pass has to have room, which [`Pass::reserve`] makes.
+    /// For all other events, a pass that is not current is refused as `Stranger`. Such a pass came from another book,
+    /// or its number of answers differs from its worker's number of entries. The pass must have room, which
+    /// [`Pass::reserve`] makes.
     pub fn call(&mut self, pass: &mut Pass, event: Event) -> Reply
         requires { 0 < pass.old.room }
         ensures called { CalledWith self.old pass.old (event_of event) (reply_of result) self.new }
@@ -181,7 +180,7 @@ impl Book {
         }
     }
 
-    /// The pages that are held in the frames of these bits are marked as used.
+    /// Marks the pages that are held in the frames of these bits as used.
     fn merge_marks(&mut self, word: u32, bits: u64) -> Reply
         ensures ok { result ≡ Reply.Ok }
         ensures called { (caller : Caller) → Called self.old caller (plain.MergeMarks word bits) said.Ok self.new }
@@ -191,8 +190,8 @@ impl Book {
         Reply::Ok
     }
 
-    /// Whether this book gave out the pass, and has as many entries of its worker as the pass has answers that
-    /// stand in the trace.
+    /// Whether this book handed out the pass, and the number of its worker's entries equals the number of the pass's
+    /// answers that are in the trace.
     fn is_current(&self, pass: &Pass) -> bool
         ensures { result ≡ is_current self.now pass.now }
     {
@@ -200,8 +199,8 @@ impl Book {
         worker < self.counts.len() && self.counts[worker] == pass.count() as u64
     }
 
-    /// An event without a ticket, asked with a pass. The pass keeps a copy, since the trace keeps the event;
-    /// where there is no memory for that, none is asked for the event itself.
+    /// Handles an event without a ticket, requested with a pass. The pass keeps a copy, since the trace keeps the
+    /// event. If there is no memory for the copy, the book does not try the event itself.
     fn serve(&mut self, pass: &mut Pass, event: PlainEvent) -> Reply
         requires room { 0 < pass.old.room }
         requires asked { IsAsked event }
@@ -232,7 +231,7 @@ impl Book {
         }
     }
 
-    /// Why an event that may want memory is refused, where none is to be had.
+    /// Why an event that may need memory is refused when memory has run out.
     fn cause(&self, event: &PlainEvent) -> Refusal
         requires asked { IsAsked event.now }
         requires grows { grows self.now.state event.now ≡ true }
@@ -245,7 +244,7 @@ impl Book {
         }
     }
 
-    /// The end of a read-in, asked with a pass.
+    /// Handles the end of a read-in, requested with a pass.
     fn end_in(&mut self, pass: &mut Pass, ticket: InTicket, end: End) -> Reply
         requires { 0 < pass.old.room }
         ensures called { CalledWith self.old pass.old (ended Direction.In end ticket) (reply_of result) self.new }
@@ -264,7 +263,7 @@ impl Book {
         reply
     }
 
-    /// The same, the pass keeping nothing yet.
+    /// The same, but the pass keeps nothing yet.
     fn take_in(&mut self, pass: &Pass, ticket: InTicket, end: End) -> Reply
         ensures called { CalledWith self.old pass.now (ended Direction.In end ticket) (reply_of result) self.new }
         ensures replies { IsInReply result }
@@ -277,7 +276,7 @@ impl Book {
         self.settle_in(pass.worker(), ticket, end)
     }
 
-    /// The end of a write-out, asked with a pass.
+    /// Handles the end of a write-out, requested with a pass.
     fn end_out(&mut self, pass: &mut Pass, ticket: OutTicket, end: End) -> Reply
         requires { 0 < pass.old.room }
         ensures called { CalledWith self.old pass.old (ended Direction.Out end ticket) (reply_of result) self.new }
@@ -296,7 +295,7 @@ impl Book {
         reply
     }
 
-    /// The same, the pass keeping nothing yet.
+    /// The same, but the pass keeps nothing yet.
     fn take_out(&mut self, pass: &Pass, ticket: OutTicket, end: End) -> Reply
         ensures called { CalledWith self.old pass.now (ended Direction.Out end ticket) (reply_of result) self.new }
         ensures replies { IsOutReply result }
@@ -309,8 +308,8 @@ impl Book {
         self.settle_out(pass.worker(), ticket, end)
     }
 
-    /// An event without a ticket. It is refused for the first cause that stands; then for want of room in
-    /// the trace; then for want of memory. Else it is done, and is one entry more.
+    /// Handles an event without a ticket. It is refused for the first cause that applies; then if the trace has no
+    /// room; then if memory runs out. Otherwise it is carried out, and adds an entry.
     fn ask(&mut self, worker: WorkerId, event: PlainEvent) -> Reply
         requires known { worker.0 < self.old.passes }
         requires asked { IsAsked event }
@@ -351,8 +350,7 @@ impl Book {
         }
     }
 
-    /// Whether the trace has no room for so many entries, besides those that are kept for the ends of
-    /// transfers.
+    /// Whether the trace has no room for this many entries, apart from those that are kept for the ends of transfers.
     fn is_full(&self, entries: usize) -> bool
         requires { entries ≤ 2 }
         ensures { result ≡ nat_lt self.now.state.opening.trace_limit (length self.now.history + in_transfer self.now.state.pages + entries) }
@@ -361,7 +359,7 @@ impl Book {
         self.state.limit() < self.trace.len() + self.state.transfers() as usize + entries
     }
 
-    /// Whether the ticket is one of a page in transfer in that direction, and the worker took it.
+    /// Whether the ticket belongs to a page in transfer in that direction, and this worker received it.
     fn is_own(&self, ticket: TicketId, direction: Direction, worker: WorkerId) -> bool
         ensures { result ≡ took self.now.state.pages self.now.history (record { worker = worker.0 }) direction ticket.0 }
     {
@@ -374,7 +372,7 @@ impl Book {
         }
     }
 
-    /// The end of a read-in. Like each end of a transfer it has room in the trace, which was kept for it.
+    /// Ends a read-in. As for each end of a transfer, the trace has kept room for it.
     fn settle_in(&mut self, worker: WorkerId, ticket: InTicket, end: End) -> Reply
         requires { worker.0 < self.old.passes }
         ensures called { Called self.old (record { worker = worker.0 }) (ended Direction.In end ticket) (reply_of result) self.new }
@@ -401,7 +399,7 @@ impl Book {
         Reply::Ok
     }
 
-    /// The end of a write-out.
+    /// Ends a write-out.
     fn settle_out(&mut self, worker: WorkerId, ticket: OutTicket, end: End) -> Reply
         requires { worker.0 < self.old.passes }
         ensures called { Called self.old (record { worker = worker.0 }) (ended Direction.Out end ticket) (reply_of result) self.new }
@@ -427,8 +425,8 @@ impl Book {
         Reply::Ok
     }
 
-    /// The live group of a path. It is no event, but the pass keeps the path with what was found, and has to
-    /// have room.
+    /// The live group of a path. This is not an event, but the pass keeps the path with the result, and must have
+    /// room.
     pub fn find(&self, pass: &mut Pass, path: Text) -> Option<GroupId>
         requires { 0 < pass.old.room }
         ensures found { option_map (λ g. g.0) result ≡ find_group self.now.state.tree path }
@@ -440,46 +438,49 @@ impl Book {
         found
     }
 
-    /// How many frames are free. It is no event.
+    /// How many frames are free. This is not an event.
     pub fn free_frames(&self) -> u32
         ensures { result + used_frames self.now.state.pages ≡ self.now.state.opening.frames }
     {
         self.state.free_frames()
     }
 
-    /// The daemon's marks, which the opening fixed. They are asked for by no event.
+    /// The daemon's watermarks, which the opening determined. Reading them is not an event.
     pub fn watermarks(&self) -> Watermarks
         ensures { result ≡ self.now.state.opening.watermarks }
     {
         self.state.watermarks()
     }
 
-    /// Where pages enter the generation lists that are read in, which the opening fixed.
+    /// Which generation list a page enters when it is read in. The opening determined this.
     pub fn placement(&self) -> Placement
         ensures { result ≡ self.now.state.opening.placement }
     {
         self.state.placement()
     }
 
-    /// How many passes were given out.
+    /// How many passes were handed out.
     pub fn passes(&self) -> u32
         ensures { result ≡ self.now.passes }
     {
         self.counts.len() as u32
     }
 
-    /// What was asked and answered so far.
+    /// All events and replies so far.
     pub fn trace(&self) -> &Trace
         ensures { reverse result.now.entries ≡ self.now.history }
     {
         &self.trace
     }
 
-    /// Nothing is done: what holds of every book's history, and of the order in which its pages are taken. Where
-    /// each page that was read in brought what was last written, [`trace::audit`] finds nothing wrong in it. The
-    /// pages in transfer are as many as the transfers that began, less those that ended. As to the order,
-    /// each held page is on the list of its group and type, once, and no other page is; and each group has
-    /// its lists, two to four generations of a type, and a cursor. A frame that a page has is one of the opening's.
+    /// Does nothing. The contract states what holds of every book's history, and of the order in which its pages are
+    /// evicted:
+    ///
+    /// - If each page that was read in brought what was last written, [`trace::audit`] finds nothing wrong.
+    /// - The number of pages in transfer is the number of transfers that began, minus those that ended.
+    /// - Each held page is on the list of its group and type, once, and no other page is.
+    /// - Each group has its lists, two to four generations of each type, and a cursor.
+    /// - A frame that a page has is one of the opening's.
     pub fn history_is_right(&self)
         ensures legal { Legal self.now.state.opening self.now.history self.now.state }
         ensures right { (files : ℕ → ℕ → ℕ → ℕ) → Honest (at_first files) self.now.history → Right (at_first files) self.now.history }
@@ -495,8 +496,7 @@ impl Book {
         self.state.is_joined();
     }
 
-    /// Spends the book, and hands out its trace, for [`trace::audit`]. Whoever has a ticket ends its transfer
-    /// before.
+    /// Spends the book, and returns its trace, for [`trace::audit`]. Workers with a ticket end its transfer before.
     pub fn close(self) -> Trace
         ensures { reverse result.entries ≡ self.history }
     {
@@ -512,7 +512,7 @@ impl Book {
     }
 }
 
-/// Adds the worker's next entry at the end, where there is room for it.
+/// Adds the worker's next entry at the end. There is room for it.
 fn append(
     state: &State,
     trace: &mut Trace,
@@ -539,7 +539,7 @@ fn append(
     });
 }
 
-/// The links of all tasks that died with their group give their memory back. The entry names the victim alone.
+/// Frees the memory for the links of all tasks that died with their group. The entry names only the victim.
 fn release_killed(state: &State, trace: &mut Trace, reply: &PlainReply)
     ensures { trace.new ≡ trace.old }
 {
@@ -574,7 +574,7 @@ fn sizes_of(alloc: Global, files: &FileList) -> Result<Vec<u32>, AllocError> {
     Ok(sizes)
 }
 
-/// Memory for the links of a task's pages, where a task begins.
+/// Reserves the memory for the links of a task's pages, if the decision starts a task.
 fn reserve_links(trace: &mut Trace, decided: &Decision<'_>) -> Result<(), AllocError>
     ensures same { trace.new ≡ trace.old }
     ensures makes { OnErr result (makes decided.now ≡ true) }
@@ -586,7 +586,7 @@ fn reserve_links(trace: &mut Trace, decided: &Decision<'_>) -> Result<(), AllocE
     }
 }
 
-/// So many page numbers, and nobody has taken a ticket.
+/// This many page numbers. No worker has a ticket.
 fn nobody(alloc: Global, numbers: usize) -> Result<Vec<WorkerId>, AllocError>
     ensures { IfOk result (λ takers. length takers.items ≡ numbers) }
 {
@@ -597,7 +597,7 @@ fn nobody(alloc: Global, numbers: usize) -> Result<Vec<WorkerId>, AllocError>
     Ok(takers)
 }
 
-/// A ticket in the reply is the worker's from now on, given out by the entry at this place of the trace.
+/// Hands out a ticket in the reply to the worker, for the entry at this place of the trace.
 fn hand_out(
     state: &State,
     takers: &mut Vec<WorkerId>,
@@ -622,7 +622,7 @@ fn hand_out(
     }
 }
 
-/// Notes who took the ticket of a transfer in flight.
+/// Notes which worker has the ticket of a transfer in flight.
 fn note_taker(state: &State, takers: &mut Vec<WorkerId>, ticket: TicketId, worker: WorkerId)
     requires known { (n : ℕ) → IfSome (at state.now.flights n) (λ flight. flight.page.0 < length takers.old.items) }
     ensures { takers.new.items ≡ noted_at takers.old.items (at state.now.flights ticket.0) worker.0 }
@@ -633,7 +633,7 @@ fn note_taker(state: &State, takers: &mut Vec<WorkerId>, ticket: TicketId, worke
     }
 }
 
-/// An event that is refused. The pass keeps it.
+/// Refuses an event. The pass keeps it.
 fn refuse(pass: &mut Pass, event: PlainEvent, cause: Refusal) -> Reply
     requires room { 0 < pass.old.room }
     requires asked { IsAsked event }
@@ -647,7 +647,7 @@ fn refuse(pass: &mut Pass, event: PlainEvent, cause: Refusal) -> Reply
     Reply::Refused(cause)
 }
 
-/// The same event again. It fails only where memory is wanted for it and refused: for a path.
+/// A copy of the event. It fails only if memory for a path runs out.
 fn copy(alloc: Global, event: &PlainEvent) -> Result<PlainEvent, AllocError>
     requires { IsAsked event.now }
     ensures copied { IfOk result (λ copied. copied ≡ event.now) }
@@ -706,7 +706,7 @@ fn in_asked(end: End, ticket: TicketId) -> Asked
     }
 }
 
-/// What stands in the history of a reply.
+/// The reply as the history contains it.
 fn plain(reply: &Reply) -> PlainReply
     ensures { result ≡ reply_of reply.now }
 {
@@ -744,7 +744,7 @@ fn plain(reply: &Reply) -> PlainReply
     }
 }
 
-/// The event by which a read-in ends.
+/// The event that ends a read-in.
 fn in_ended(end: End, ticket: TicketId, bytes: PageBytes) -> PlainEvent
     ensures { result ≡ ended_with Direction.In end ticket.0 bytes }
 {
@@ -754,7 +754,7 @@ fn in_ended(end: End, ticket: TicketId, bytes: PageBytes) -> PlainEvent
     }
 }
 
-/// The event by which a write-out ends.
+/// The event that ends a write-out.
 fn out_ended(end: End, ticket: TicketId) -> PlainEvent
     ensures { (bytes : List ℕ) → result ≡ ended_with Direction.Out end ticket.0 bytes }
 {
@@ -764,7 +764,7 @@ fn out_ended(end: End, ticket: TicketId) -> PlainEvent
     }
 }
 
-/// A ticket that the book does not take, handed back where its own worker asked.
+/// A ticket that the book does not accept. It is handed back if its own worker made the request.
 fn back<B: Carries>(worker: WorkerId, ticket: Ticket<B>) -> Ticket<B>
     ensures { IsBack worker.0 ticket result }
 {

@@ -1,5 +1,5 @@
-//! What an event will do: each cause to refuse it, in order, and where there is none, what comes of it.
-//! Nothing changes here.
+//! What an event will do. The causes to refuse it are checked in order; if none applies, its effect is
+//! decided. Nothing changes here.
 
 ghost use Rattle.std.specs.Prelude.{◌≡◌, ℕ, true, false, Option, None, Some, option_map, IfSome, IfOk, IfErr, OnErr, MatchResult};
 ghost use Rattle.machine.specs.declared.event.Event.TheVariants as event;
@@ -25,8 +25,8 @@ use oom::{Chosen, victims};
 use page_state::State;
 use pages::{FilePage, Residence, Source};
 
-/// The first cause to refuse an event that has no ticket, room in the trace and memory aside; or what the
-/// event will do.
+/// The first cause to refuse an event without a ticket, or what the event will do. Room in the trace and
+/// memory are not checked.
 pub fn decide<'e>(state: &State, event: &'e Event) -> Result<Decision<'e>, Refusal>
     requires { IsAsked event.now }
     ensures { MatchResult result (λ decided. IsDecided state.now event.now decided) (λ why. refusal state.now.tables event.now ≡ Some why) }
@@ -80,7 +80,7 @@ fn decide_access<'e>(
     Ok(decide_fault(state, fault))
 }
 
-/// Whether the place is there.
+/// Whether the place exists.
 fn is_place(state: &State, place: Place) -> bool
     ensures { result ≡ is_place state.now.tables.opening place }
 {
@@ -92,7 +92,7 @@ fn is_place(state: &State, place: Place) -> bool
     }
 }
 
-/// An access by a live task: what it meets, and whether the charge that it needs is granted.
+/// An access by a live task: what it meets, and whether there is room for the charge that it needs.
 fn decide_fault<'e>(state: &State, fault: PageFault) -> Decision<'e>
     requires { IsFault state.now.tables fault }
     ensures { IsDecided state.now (event.Access fault.task fault.place fault.op) result }
@@ -107,7 +107,8 @@ fn decide_fault<'e>(state: &State, fault: PageFault) -> Decision<'e>
     }
 }
 
-/// The group that is charged for the page that an access needs, if it needs one. What is made is the task's.
+/// The group that is charged for the page that an access needs, if it needs one. A new page is charged to
+/// the task's group.
 fn charged(state: &State, fault: PageFault, meeting: Meeting) -> Option<GroupId>
     requires fault { IsFault state.now.tables fault }
     requires meets { MeetsSo state.now.tables fault meeting }
@@ -127,7 +128,7 @@ fn charged(state: &State, fault: PageFault, meeting: Meeting) -> Option<GroupId>
     }
 }
 
-/// What an access meets. Where no page has its byte, memory is zeros, and a page of a file is on the device.
+/// What an access meets. If no page has its byte, memory is zeros, and a page of a file is on the device.
 fn meet(state: &State, fault: PageFault) -> Meeting
     requires { IsFault state.now.tables fault }
     ensures { MeetsSo state.now.tables fault result }
@@ -151,7 +152,8 @@ fn meet(state: &State, fault: PageFault) -> Meeting
     }
 }
 
-/// The page that has the byte: what the task's page table shows, or what the cache holds of the file.
+/// The page that has the byte: the one that the task's page table maps, or the one that the cache holds of
+/// the file.
 fn find(state: &State, fault: PageFault) -> Option<PageId>
     requires { IsFault state.now.tables fault }
     ensures { option_map (λ page. page.0) result ≡ holder state.now.tables (spot_at fault) }
@@ -182,7 +184,8 @@ fn meet_page(state: &State, fault: PageFault, page: PageId) -> Meeting
     }
 }
 
-/// An access to a page on its block, which is memory: it stays its group's, whoever reaches for it.
+/// An access to a page on its block, which is memory. The page remains its group's, for an access by any
+/// task.
 fn meet_away(state: &State, fault: PageFault, page: PageId) -> Meeting
     requires { (b : ℕ) × Finds state.now.tables fault page.0 (residence.Away b) }
     ensures { MeetsSo state.now.tables fault result }
@@ -194,8 +197,8 @@ fn meet_away(state: &State, fault: PageFault, page: PageId) -> Meeting
     Meeting::NeedsFetch(Source::Swapped(page), group)
 }
 
-/// An access to a page in a frame. A write in place would change memory for others that map it too; a page
-/// of a file is written in place, whoever else reads it.
+/// An access to a page in a frame. If other virtual pages map memory too, a write in place would change it
+/// for them. A page of a file is written in place, even if others read it.
 fn meet_held(state: &State, fault: PageFault, page: PageId, frame: FrameId) -> Meeting
     requires { Finds state.now.tables fault page.0 (residence.Held frame.0) }
     ensures { MeetsSo state.now.tables fault result }
@@ -224,8 +227,8 @@ fn meet_held(state: &State, fault: PageFault, page: PageId, frame: FrameId) -> M
 
 // ---- reclaim
 
-/// Relief: room is not wanted any more; or a page is taken; or one in transfer may come free; or the worst
-/// task is killed, if there is one, alone or with a group.
+/// One relief. Either room is not needed any more, or a page is evicted, or one in transfer may become
+/// free. Otherwise the victim, if there is one, is killed, alone or with a group.
 fn decide_relief<'e>(state: &State, cause: Cause) -> Decision<'e>
     ensures { IsDecided state.now (event.Relieve cause) result }
 {
@@ -263,7 +266,8 @@ fn decide_kill<'e>(limit: GroupId, chosen: Chosen) -> Decision<'e>
     }
 }
 
-/// A page for whoever asks: it is taken; or one in transfer may come free; or there is nothing.
+/// A reclaim on request: a page is evicted; or one in transfer may become free; or there is nothing to
+/// reclaim.
 fn decide_reclaim<'e>(state: &State, target: GroupId) -> Result<Decision<'e>, Refusal>
     ensures { MatchResult result (λ decided. IsDecided state.now (event.ReclaimOne target) decided) (λ why. refusal state.now.tables (event.ReclaimOne target) ≡ Some why) }
 {
@@ -279,7 +283,7 @@ fn decide_reclaim<'e>(state: &State, target: GroupId) -> Result<Decision<'e>, Re
     Ok(Decision::Nothing)
 }
 
-/// Whether room is still wanted.
+/// Whether room is still needed.
 fn is_wanted(state: &State, cause: Cause) -> bool
     ensures { result ≡ stands state.now.tables cause }
 {
@@ -294,7 +298,7 @@ fn is_wanted(state: &State, cause: Cause) -> bool
     }
 }
 
-/// The group under which room is wanted.
+/// The group under which room is needed.
 pub fn target_of(cause: Cause) -> GroupId
     ensures { result.0 ≡ target_of cause }
 {
@@ -306,8 +310,8 @@ pub fn target_of(cause: Cause) -> GroupId
 
 // ---- tasks and groups
 
-/// A live task's group, or none where the task was killed, which it is told whatever it asks. Any other task
-/// is the first cause to refuse what it asks.
+/// A live task's group. `None` if the task was killed: every request of such a task is answered with
+/// `Killed`. For any other task the result is the first cause to refuse its request.
 fn running(state: &State, task: TaskId) -> Result<Option<GroupId>, Refusal>
     ensures runs { IfOk result (λ group. RunsIn state.now.tables task.0 group) }
     ensures refused { IfErr result (λ why. (others : Option Refusal_of) → task_refusal (task_at state.now.tables.tasks task.0) others ≡ Some why) }

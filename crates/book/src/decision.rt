@@ -1,4 +1,4 @@
-//! What an event without a ticket will do, known before anything changes.
+//! What an event without a ticket will do, decided before anything changes.
 
 ghost use Rattle.std.specs.Prelude.{◌≡◌};
 ghost use Rattle.book.specs.Decisions.{offset_at, entries_for};
@@ -20,7 +20,7 @@ pub struct PageFault {
 }
 
 impl PageFault {
-    /// Where in its page the byte is.
+    /// The offset of the byte in its page.
     pub fn offset(self) -> u32
         ensures { result ≡ offset_at self }
     {
@@ -35,73 +35,74 @@ impl PageFault {
     }
 }
 
-/// What an access meets. A page that it needs has to be charged first.
+/// What an access meets. A page that it needs must be charged first.
 #[derive(Clone, Copy)]
 pub enum Meeting {
-    /// A read where nothing is mapped.
+    /// A read of a virtual page that maps nothing.
     Unmapped,
-    /// A page in this frame, which it may use as it is.
+    /// A page in this frame, which the access may use as it is.
     Hits(PageId, FrameId),
     /// A page in transfer.
     Transferring,
-    /// A write of this byte where nothing is mapped: a page is made for the virtual page.
+    /// A write of this byte to a virtual page that maps nothing: a page is made for it.
     NeedsPage { at: u32, byte: u8 },
-    /// A write of this byte to memory in a frame that others map too: the virtual page gets a copy.
+    /// A write of this byte to memory in a frame that other virtual pages map too: the virtual page gets a copy.
     NeedsCopy { at: u32, page: PageId, byte: u8 },
-    /// A page is read in, and charged to this group: memory on its block, to the group that it is of; a page of a file
-    /// that no page holds, to the task's.
+    /// A page is read in, and charged to this group. Memory on its block is charged to its own group. A page of a file
+    /// that no page holds is charged to the task's group.
     NeedsFetch(Source, GroupId),
 }
 
 /// What an event will do.
 #[derive(Clone, Copy)]
 pub enum Decision<'e> {
-    /// The task was killed before, and is told so.
+    /// The task was killed before, and the reply says so.
     Killed,
-    /// An access by a live task. The charge that it needs is granted.
+    /// An access by a live task. If it needs a charge, there is room for it.
     Access(PageFault, Meeting),
-    /// An access by a live task, which needs a charge for which there is no room.
+    /// An access by a live task that needs a charge for which there is no room.
     Lacks(PageFault, NoRoom),
-    /// Room is not wanted any more.
+    /// Room is not needed any more.
     Room,
-    /// This group gives the next page to a reclaim of the target.
+    /// A reclaim of the target evicts the next page of this group.
     Take {
         target: GroupId,
         served: Served,
     },
-    /// No page can be taken, but one in transfer may come free.
+    /// No page can be reclaimed, but one in transfer may become free.
     Wait,
-    /// No page can be taken, none is in transfer, and nobody is killed for it.
+    /// No page can be reclaimed, none is in transfer, and no task is killed for it.
     Nothing,
-    /// No page can be taken, none is in transfer, and this task is killed for it, alone.
+    /// No page can be reclaimed, none is in transfer, and only this task is killed.
     Kill {
         limit: GroupId,
         task: TaskId,
     },
-    /// The same, and all tasks of this group and of those below it are killed, as the victim is one of them.
+    /// No page can be reclaimed, none is in transfer, and all tasks in and below this group are killed, since the
+    /// victim is one of them.
     KillAll {
         limit: GroupId,
         victim: TaskId,
         group: GroupId,
     },
-    /// The same, and there is nobody to kill.
+    /// No page can be reclaimed, none is in transfer, and there is no task to kill.
     NoVictim(GroupId),
-    /// A task begins.
+    /// A task starts.
     Spawn {
         task: TaskId,
         group: GroupId,
     },
-    /// A task begins that shows what this live one shows.
+    /// A task starts that maps what this live one maps.
     Fork {
         task: TaskId,
         child: TaskId,
     },
-    /// A virtual page of a live task shows nothing any more.
+    /// A virtual page of a live task is unmapped.
     Free {
         task: TaskId,
         at: u32,
     },
-    /// A live task goes to another group.
+    /// A live task moves to another group.
     Attach {
         task: TaskId,
         group: GroupId,
@@ -113,7 +114,7 @@ pub enum Decision<'e> {
         parent: GroupId,
         path: &'e str,
     },
-    /// A group goes, and its pages are its parent's.
+    /// A group is removed, and its pages become its parent's.
     Rmdir(GroupId),
     /// A setting of a group changes.
     Set {
@@ -125,8 +126,8 @@ pub enum Decision<'e> {
 }
 
 impl Decision<'_> {
-    /// How many entries of the trace it needs: two where a transfer begins, one of them for its end, or a
-    /// page is dropped.
+    /// How many entries of the trace it needs: two if a transfer begins, one of them for its end, or if a page is
+    /// dropped.
     pub fn entries(&self) -> usize
         ensures { result ≡ entries_for self.now }
     {

@@ -1,4 +1,4 @@
-//! What is asked of a book and what it answers, with the tickets of transfers by value.
+//! The events and replies of a book, with the tickets of transfers by value.
 
 use machine::event::{Cause, Op, Place, Query, Setting};
 use machine::id::{FrameId, GroupId, TaskId};
@@ -7,7 +7,7 @@ use machine::reply::Shown;
 use machine::text::Text;
 use pages::{InTicket, OutTicket};
 
-/// One event. It is a [`machine::event::Event`], with the ticket itself where that has the ticket's
+/// One event. It is a [`machine::event::Event`], with the ticket itself in place of the ticket's
 /// number.
 #[must_use]
 pub enum Event {
@@ -21,34 +21,34 @@ pub enum Event {
     Left(OutTicket),
     /// The ticket's block could not be written.
     LeaveFailed(OutTicket),
-    /// Room is wanted.
+    /// Room is needed.
     Relieve(Cause),
-    /// A page is to be taken from the group or from below it.
+    /// Reclaims a page of the group or of a group below it, on request.
     ReclaimOne(GroupId),
     /// A new task of a group.
     Spawn { task: TaskId, group: GroupId },
-    /// A new task in the group of another, that shows what the other shows.
+    /// A new task in the group of another, which maps what the other maps.
     Fork { task: TaskId, child: TaskId },
     /// A task ends by itself.
     Exit(TaskId),
-    /// A virtual page of a task shows nothing from then on.
+    /// A virtual page of a task maps nothing from then on.
     Free { task: TaskId, page: u32 },
-    /// A task goes to another group.
+    /// A task moves to another group.
     Attach { task: TaskId, group: GroupId },
     /// A new group, by its path.
     Mkdir(Text),
-    /// A group is removed, and its pages go to its parent.
+    /// A group is removed, and its pages become its parent's.
     Rmdir(GroupId),
     /// A control file is written.
     Set { group: GroupId, setting: Setting },
-    /// A control file's numbers are asked for.
+    /// The numbers of a control file are requested.
     Show(Query),
     /// The pages that are held in the frames of these bits were used.
     MergeMarks { word: u32, bits: u64 },
 }
 
-/// The answer to one event. It is a [`machine::reply::Reply`], with the ticket itself where that has
-/// the ticket's number. A ticket that is none of the caller's is handed back.
+/// The answer to one event. It is a [`machine::reply::Reply`], with the ticket itself in place of the
+/// ticket's number. A ticket that is not one of the caller's is handed back.
 #[must_use]
 pub enum Reply {
     /// The byte read or written, and the frame that was hit.
@@ -56,7 +56,7 @@ pub enum Reply {
         byte: u8,
         hit: Option<FrameId>,
     },
-    /// The page is being read in: whoever asked reads the ticket's block, and ends the transfer.
+    /// The page is now being read in: the caller reads the ticket's block, and ends the transfer.
     Fetch(InTicket),
     /// No charge: this is the lowest group without room.
     Over(GroupId),
@@ -69,29 +69,29 @@ pub enum Reply {
     Ok,
     /// There is room.
     Room,
-    /// A page of a file, as its home block has it, was let go.
+    /// A clean page of a file was dropped.
     Dropped,
-    /// A page is being written out: whoever asked writes the ticket's block, and ends the transfer.
+    /// A page is now being written out: the caller writes the ticket's block, and ends the transfer.
     Out(OutTicket),
-    /// A page is in transfer, and may come free.
+    /// A page is in transfer, and may become free.
     Wait,
-    /// There is no page to be taken, and none in transfer.
+    /// No page can be reclaimed, and none is in transfer.
     Nothing,
-    /// Relief killed this task, and it alone.
+    /// Relief killed only this task.
     KilledTask(TaskId),
-    /// Relief chose this victim, and killed all tasks of this group and of those below it: so many, the
-    /// victim counted.
+    /// Relief chose this victim, and killed all tasks in and below this group. The number includes the
+    /// victim.
     KilledAll {
         victim: TaskId,
         group: GroupId,
         tasks: u32,
     },
-    /// Relief found nobody to kill.
+    /// Relief found no task to kill.
     NoVictim,
     Shown(Shown),
-    /// Nothing was done, for this cause.
+    /// Nothing changed, for this reason.
     Refused(Refusal),
-    /// `Stranger`: the ticket is none of the caller's transfers in flight.
+    /// `Stranger`: the ticket does not belong to any of the caller's transfers in flight.
     StrangeIn(InTicket),
     /// `Stranger`, as above.
     StrangeOut(OutTicket),

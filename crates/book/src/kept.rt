@@ -1,4 +1,4 @@
-//! What a pass keeps: what its worker asked, and what came back.
+//! What a pass keeps: its worker's requests and the answers.
 
 ghost use Rattle.std.specs.Prelude.{◌≡◌};
 ghost use Rattle.book.specs.Passes.{is_entry};
@@ -11,23 +11,23 @@ use machine::text::Text;
 /// An event as a pass keeps it.
 #[derive(Drop)]
 pub enum Asked {
-    /// As it stands in the trace, or would if it had not been refused.
+    /// As the trace contains it, or would if it had not been refused.
     Whole(Event),
-    /// An arrival, by its ticket alone: the bytes that it brought stand in the trace.
+    /// An arrival, with only its ticket's number: the trace has the bytes that it brought.
     Arrival(TicketId),
 }
 
-/// One thing that was asked with a pass.
+/// One request with a pass.
 #[derive(Drop)]
 pub enum Kept {
-    /// An event and its answer, a refusal too.
+    /// An event and its answer, even a refusal.
     Call { asked: Asked, said: Reply },
-    /// A path that was looked for, and the live group that it names, if there was one.
+    /// A path that was looked up, and the live group that it names, if there was one.
     Find { path: Text, found: Option<GroupId> },
 }
 
 impl Kept {
-    /// Whether it stands in the trace.
+    /// Whether the trace has an entry for it.
     pub(crate) fn is_entry(&self) -> bool
         ensures { result ≡ is_entry self.now }
     {

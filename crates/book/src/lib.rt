@@ -1,7 +1,7 @@
-//! The book: one event a call, each a proved step of the plain machine, and the history of what was
-//! answered.
+//! The book: one event in each call, each a proved step of the plain machine, and the history of
+//! events and replies.
 //!
-//! [`Book::call`] is the one place where a machine changes. What an event will do is decided once,
+//! [`Book::call`] is the only place where a machine changes. What an event will do is decided once,
 //! before anything changes, and then applied to the joined parts.
 #![tactic(auto)]
 

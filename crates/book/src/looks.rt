@@ -1,4 +1,4 @@
-//! Looks at a book, which are no events: nothing is asked, and nothing changes.
+//! Looks at a book. They are not events, and nothing changes.
 
 ghost use Rattle.std.specs.Prelude.{◌≡◌, ◌+◌, length, option_map, IfSome};
 ghost use Rattle.machine.specs.Pages.{used_frames, used_swap, in_transfer};
@@ -16,10 +16,10 @@ use machine::record::{EventCounts, MemoryStat};
 use oom::{is_candidate, victims};
 use page_state::State;
 
-/// What is known of a group at a time.
+/// The state of a group at some moment.
 #[derive(Clone, Copy, Debug, PartialEq, Eq)]
 pub struct GroupLook {
-    /// Which group of all that ever were it is.
+    /// The group's number among all groups that were ever made.
     pub number: u32,
     /// Pages that are charged to it and below it (`memory.current`, in pages).
     pub usage: u64,
@@ -29,30 +29,30 @@ pub struct GroupLook {
     pub min: Amount,
     /// `memory.low`
     pub low: Amount,
-    /// What was counted at the group itself (`memory.events.local`).
+    /// The counts of the group itself (`memory.events.local`).
     pub local: EventCounts,
 }
 
-/// Whom a relief kills, where it kills anybody.
+/// The task that a relief would kill, if it kills one.
 #[derive(Clone, Copy)]
 pub struct Victim {
     pub task: TaskId,
-    /// How many of its virtual pages show a page.
+    /// How many of its virtual pages map a page.
     pub pages: usize,
-    /// How many tasks live at or below the group under which room is wanted, itself among them.
+    /// How many tasks are live at or below the group under which room is needed, including the victim.
     pub tasks: u32,
-    /// The group under which room is wanted.
+    /// The group under which room is needed.
     pub limit: GroupId,
-    /// The group that dies with it: all its live tasks and those below it. `None` where it dies alone.
+    /// The group that dies with it: all live tasks in and below it. `None` if only the victim dies.
     pub group: Option<GroupId>,
 }
 
-/// What is free and what is under way in a whole machine.
+/// The free frames and blocks, the transfers and the entries of a whole machine.
 #[derive(Clone, Copy, PartialEq, Eq)]
 pub struct Tally {
-    /// Frames that no page has.
+    /// Frames without a page.
     pub free_frames: u32,
-    /// Swap blocks that no page has.
+    /// Swap blocks without a page.
     pub free_blocks: u32,
     /// Pages that are being read in or written out.
     pub in_transfer: u32,
@@ -60,7 +60,7 @@ pub struct Tally {
     pub entries: u32,
 }
 
-/// How many tasks live in a group at or under the limit.
+/// How many live tasks are in a group at or under the limit.
 fn candidates(state: &State, limit: GroupId) -> u32
     ensures { result ≡ candidates state.now.tables.tree state.now.tables.tasks limit.0 }
 {
@@ -74,7 +74,7 @@ fn candidates(state: &State, limit: GroupId) -> u32
 }
 
 impl Book {
-    /// What is known of the group that has this path now. Nothing where none has.
+    /// The state of the group that has this path now. `None` if no group has it.
     pub fn look(&self, path: &str) -> Option<GroupLook>
         ensures { result ≡ look_at self.now.state path.now }
     {
@@ -105,7 +105,7 @@ impl Book {
         }
     }
 
-    /// What the pages of the group that has this path now hold (`memory.stat`, in pages). It goes over all page
+    /// What the pages of the group that has this path now contain (`memory.stat`, in pages). The call looks at all page
     /// numbers.
     pub fn stat(&self, path: &str) -> Option<MemoryStat>
         ensures { result ≡ stat_at self.now.state path.now }
@@ -114,8 +114,8 @@ impl Book {
         Some(self.state.stat(group))
     }
 
-    /// The number of the youngest generation of the group that has this path now, which begins at 3 and rises by one
-    /// with each aging (kernel: `lrugen.max_seq`). Nothing where none has.
+    /// The number of the youngest generation of the group that has this path now (kernel: `lrugen.max_seq`). It begins
+    /// at 3 and rises by one with each aging. `None` if no group has this path.
     pub fn max_seq(&self, path: &str) -> Option<u64>
         ensures { result ≡ max_seq_at self.now.state self.now.order path.now }
     {
@@ -123,8 +123,9 @@ impl Book {
         Some(self.state.max_seq(group))
     }
 
-    /// Whom a relief for this cause takes, and the group that dies with it, if it kills a task now, which it does only where the cause stands, no page
-    /// can be taken and none is in transfer. It goes over all task numbers.
+    /// The task that a relief for this cause kills, if it kills one now, and the group that dies with it. A relief
+    /// kills only if the cause still applies, no page can be reclaimed, and none is in transfer. The call looks at all
+    /// task numbers.
     pub fn victim(&self, cause: Cause) -> Option<Victim>
         ensures who { IsVictims self.now.state.tree self.now.state.flags self.now.state.tasks self.now.state.page_tables (target_of cause) (option_map dying_of result) }
         ensures pages { IfSome result (λ v. v.pages ≡ size_of self.now.state.page_tables v.task.0) }

@@ -1,4 +1,4 @@
-//! Passes: who asks a book, and what they asked.
+//! Passes: each belongs to a worker, and has the worker's requests to a book.
 
 ghost use Rattle.std.specs.Prelude.{◌≡◌, ◌≤◌, ◌<◌, [], OnOk, OnErr, IfErr};
 ghost use Rattle.book.specs.Passes.{keeping, count_of};
@@ -9,15 +9,15 @@ use machine::refusal::Refusal;
 use std::alloc::Global;
 use std::marker::Model;
 
-/// A worker's leave to ask the book that gave it out, and all that was asked with it: each event with its
-/// answer, refusals too, and each path that was looked for.
+/// A worker's permission to call the book that handed it out. It keeps all requests made with it: each
+/// event with its answer, even a refusal, and each path that was looked up.
 ///
-/// A contract sees whose it is, what it keeps, and for how much more it has memory.
+/// A contract sees its worker, what it keeps, and for how many further requests it has memory.
 #[derive(Drop)]
 pub struct Pass {
     worker: WorkerId,
     kept: Vec<Kept>,
-    /// How many of these stand in the trace.
+    /// How many of these have an entry in the trace.
     count: usize,
 }
 
@@ -45,29 +45,29 @@ impl Pass {
         }
     }
 
-    /// The worker's number: passes are numbered from 0, in the order in which they were given out.
+    /// The worker's number: passes are numbered from 0, in the order in which they were handed out.
     pub fn worker(&self) -> WorkerId
         ensures { result.0 ≡ self.now.caller.worker }
     {
         self.worker
     }
 
-    /// What was asked with it, the oldest first.
+    /// The requests made with it, the oldest first.
     pub fn kept(&self) -> &[Kept]
         ensures { result.now ≡ self.now.kept }
     {
         self.kept.as_slice()
     }
 
-    /// How many of its answers stand in the trace: those to events that were not refused.
+    /// How many of its answers have an entry in the trace: those to events that were not refused.
     pub fn count(&self) -> usize
         ensures { result ≡ count_of self.now.kept }
     {
         self.count
     }
 
-    /// Memory for so many events or paths more. Each call with the pass, and each path that is looked for,
-    /// takes one's. `NoMemory` where it is refused; nothing changes then.
+    /// Reserves memory for this many further events or paths. Each call with the pass, and each path that
+    /// is looked up, takes the memory of one. `NoMemory` if memory runs out. Nothing changes then.
     pub fn reserve(&mut self, more: usize) -> Result<(), Refusal>
         ensures room { OnOk result (more ≤ self.new.room) }
         ensures more { self.old.room ≤ self.new.room }
@@ -82,7 +82,7 @@ impl Pass {
         }
     }
 
-    /// One thing more that was asked with it.
+    /// Keeps another request.
     pub(crate) fn keep(&mut self, kept: Kept)
         requires { 0 < self.old.room }
         ensures { self.new ≡ keeping self.old kept }

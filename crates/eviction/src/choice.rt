@@ -14,7 +14,7 @@ use aging::{MarkSet, age};
 use lru_gen::Gens;
 use machine::id::GroupId;
 
-/// Ages the group just until a page is old, and takes the first such.
+/// Ages the group until a page is old, no more often than necessary, and takes the first old page.
 fn age_until_old(gens: &mut Gens, marks: &mut MarkSet, group: GroupId, swap_free: bool) -> Pick
     requires group { group.0 < length gens.old.groups }
     requires marked { gens.old.pages ≤ length marks.old }
@@ -44,10 +44,10 @@ fn age_until_old(gens: &mut Gens, marks: &mut MarkSet, group: GroupId, swap_free
     }
 }
 
-/// The page of a group that is evicted next, where there is one; it stands on its list still (kernel: isolate_folios).
-/// `None` where no page may be taken, and then nothing changes. It takes no memory.
+/// The page of a group that is evicted next, if there is one. It is still on its list (kernel: isolate_folios). `None`
+/// if no page is reclaimable, and then nothing changes. Allocates no memory.
 ///
-/// Each page keeps its type, and the marks of pages that are not of this group stay.
+/// Each page keeps its type, and the marks of other groups' pages do not change.
 pub fn pick(gens: &mut Gens, marks: &mut MarkSet, group: GroupId, swap_free: bool) -> Option<Pick>
     requires group { group.0 < length gens.old.groups }
     requires marked { gens.old.pages ≤ length marks.old }
@@ -57,11 +57,11 @@ pub fn pick(gens: &mut Gens, marks: &mut MarkSet, group: GroupId, swap_free: boo
     ensures listed { IfSome result (λ p. is_listed (gens_of gens.new group.0) p.page.0 ≡ true) }
     ensures ages { IfSome result (λ p. (gens_of gens.new group.0).max_seq ≡ (gens_of gens.old group.0).max_seq + p.ages) }
     ensures few_ages { IfSome result (λ p. p.ages ≤ 3) }
-    // The marked pages that it passed by, and the one that it found.
+    // The marked pages that it skipped, and the page that it found.
     ensures looks { IfSome result (λ p. p.looks ≡ length (front_run (has_mark marks.old) (old_pages swap_free (gens_of gens.old group.0))) + 1) }
     ensures one_look { IfSome result (λ p. 1 ≤ p.looks) }
     ensures few_looks { IfSome result (λ p. p.looks ≤ 4 * length (listed (gens_of gens.old group.0))) }
-    // What stays.
+    // What does not change.
     ensures same_pages { (g : ℕ) → ListsSame (gens_of gens.old g) (gens_of gens.new g) }
     ensures only { ChangesOnly group.0 gens.old gens.new }
     ensures other_marks { (p : ℕ) → is_listed (gens_of gens.old group.0) p ≡ false → is_marked marks.new p ≡ is_marked marks.old p }

@@ -28,7 +28,8 @@ fn can_go(gens: &Gens, group: GroupId, kind: Kind) -> bool
     gens.front(group, kind).is_none() && gens.max_seq(group) - gens.min_seq(group, kind) >= 2
 }
 
-/// No empty generation of the type stays oldest, while two remain (kernel: try_to_inc_min_seq).
+/// Ends the oldest generations of the type that are empty, while two others remain (kernel:
+/// try_to_inc_min_seq).
 fn settle(gens: &mut Gens, group: GroupId, kind: Kind)
     requires { group.0 < length gens.old.groups }
     ensures { gens.new ≡ sets gens.old group.0 (on_row kind (settled_row (gens_of gens.old group.0).max_seq) (gens_of gens.old group.0)) }
@@ -54,7 +55,7 @@ fn old_front(gens: &Gens, group: GroupId, kind: Kind) -> Option<Old>
     Some(Old { page, kind })
 }
 
-/// The first old page that is anonymous and may be taken.
+/// The first old page that is anonymous and reclaimable.
 fn old_anon(gens: &Gens, group: GroupId, swap_free: bool) -> Option<Old>
     requires group { group.0 < length gens.now.groups }
     requires settled { (gens_of gens.now group.0).anon ≡ settled_row (gens_of gens.now group.0).max_seq (gens_of gens.now group.0).anon }
@@ -67,7 +68,7 @@ fn old_anon(gens: &Gens, group: GroupId, swap_free: bool) -> Option<Old>
     old_front(gens, group, Kind::Anon)
 }
 
-/// Whether the file page comes first: where its number is the lesser, or both are the same.
+/// Whether the file page comes first: its number is lower, or both are the same.
 fn is_file_first(gens: &Gens, group: GroupId, file: bool, anon: bool) -> bool
     requires { group.0 < length gens.now.groups }
     ensures { result ≡ (not anon || (file && nat_le (gens_of gens.now group.0).file.min_seq (gens_of gens.now group.0).anon.min_seq)) }
@@ -75,7 +76,7 @@ fn is_file_first(gens: &Gens, group: GroupId, file: bool, anon: bool) -> bool
     !anon || (file && gens.min_seq(group, Kind::File) <= gens.min_seq(group, Kind::Anon))
 }
 
-/// The page that is looked at next.
+/// The next page to look at.
 fn first_old(gens: &Gens, group: GroupId, swap_free: bool) -> Option<Old>
     requires group { group.0 < length gens.now.groups }
     requires settled { gens_of gens.now group.0 ≡ settled_gens (gens_of gens.now group.0) }
@@ -93,7 +94,7 @@ fn first_old(gens: &Gens, group: GroupId, swap_free: bool) -> Option<Old>
     }
 }
 
-/// The page that is looked at next, once no empty generation stays oldest.
+/// The next page to look at, after empty oldest generations have ended.
 fn next_old(gens: &mut Gens, group: GroupId, swap_free: bool) -> Option<Old>
     requires { group.0 < length gens.old.groups }
     ensures gens { gens.new ≡ sets gens.old group.0 (settled_gens (gens_of gens.old group.0)) }
@@ -106,14 +107,14 @@ fn next_old(gens: &mut Gens, group: GroupId, swap_free: bool) -> Option<Old>
     first_old(gens, group, swap_free)
 }
 
-/// What a search found, and how many pages it looked at.
+/// The result of a search, and how many pages it looked at.
 #[derive(Clone, Copy)]
 pub struct Search {
     pub page: Option<PageId>,
     pub looks: u64,
 }
 
-/// The first old page that is not marked. The marked ones before it go to the tails, unmarked.
+/// The first old page that is not marked. The marked ones before it move to the tails, unmarked.
 pub fn first_unmarked(
     gens: &mut Gens,
     marks: &mut MarkSet,

@@ -1,8 +1,8 @@
-//! The pages that are held: in frames and in no transfer. Their generation lists, and which of them are marked as
-//! accessed, kept together, so that a page that leaves its list leaves its mark.
+//! The pages that are held: in frames, and not in transfer. The crate keeps their generation lists together with
+//! their marks as accessed, so a page that leaves its list also loses its mark.
 //!
-//! A page that comes enters the youngest generation of its group and type, but where the placement puts what was
-//! read in; none comes with a mark. No call but those that open and reserve takes memory.
+//! A new page enters the youngest generation of its group and type. A page that was read in enters the generation
+//! that the placement chooses. No page enters with a mark. Only the calls that open and reserve allocate memory.
 #![tactic(auto)]
 
 ghost use Rattle.std.specs.Prelude.{◌≡◌, ◌≢◌, ℕ, ◌+◌, ◌-◌, ◌<◌, ◌≤◌, ◌^◌, ◌∷◌, [], true, false, Some, None, IfOk, OnOk, length, replicate, slice_set};
@@ -20,8 +20,8 @@ use machine::record::{Direction, Kind};
 use std::alloc::{AllocError, Global};
 use std::marker::Model;
 
-/// The generation lists of all groups, and the marks of all pages. None of its calls but
-/// [`HeldPages::open`] and [`HeldPages::reserve_group`] takes memory.
+/// The generation lists of all groups, and the marks of all pages. Only [`HeldPages::open`] and
+/// [`HeldPages::reserve_group`] allocate memory.
 #[derive(Drop)]
 pub struct HeldPages {
     gens: Gens,
@@ -41,7 +41,7 @@ impl Model for HeldPages {
 }
 
 impl HeldPages {
-    /// No page, so many page numbers, and the root as the only group.
+    /// No page, this many page numbers, and the root as the only group.
     pub fn open(alloc: Global, numbers: u32) -> Result<HeldPages, AllocError>
         ensures groups { IfOk result (λ h. h.lists.groups ≡ new_gens ∷ []) }
         ensures marks { IfOk result (λ h. h.lists.marks ≡ replicate numbers false) }
@@ -62,7 +62,7 @@ impl HeldPages {
         &self.gens
     }
 
-    /// Nothing is done: what always holds of the lists.
+    /// Does nothing. The contract states what always holds of the lists.
     pub fn are_generations(&self)
         ensures generations { AreGenerations self.now.lists }
         ensures apart { (g h p : ℕ) → is_listed (gens_at self.now.lists.groups g) p ≡ true → is_listed (gens_at self.now.lists.groups h) p ≡ true → g ≡ h }
@@ -71,7 +71,7 @@ impl HeldPages {
         self.gens.is_sound();
     }
 
-    /// Asks for the memory of one group more.
+    /// Reserves the memory for another group.
     pub fn reserve_group(&mut self) -> Result<(), AllocError>
         ensures room { OnOk result (0 < self.new.room) }
         ensures same { self.new ≡ record self.old { room = self.new.room } }
@@ -79,7 +79,7 @@ impl HeldPages {
         self.gens.reserve_group()
     }
 
-    /// A group more, with no page. Its memory was asked for by [`HeldPages::reserve_group`].
+    /// Adds a group without pages. [`HeldPages::reserve_group`] reserved its memory.
     pub fn add_group(&mut self)
         requires { 0 < self.old.room }
         ensures { self.new ≡ record self.old { lists = with_group self.old.lists; room = self.new.room } }
@@ -87,7 +87,7 @@ impl HeldPages {
         self.gens.add_group_reserved();
     }
 
-    /// The page, which is on no list, is the last of the group's youngest generation (kernel: folio_add_lru).
+    /// Adds the page, which is on no list, to the end of the group's youngest generation (kernel: folio_add_lru).
     pub fn add(&mut self, group: GroupId, kind: Kind, page: PageId)
         requires group { group.0 < length self.old.lists.groups }
         requires number { page.0 < self.old.numbers }
@@ -99,8 +99,8 @@ impl HeldPages {
         self.gens.add(group, page, kind, seq);
     }
 
-    /// The page, whose transfer in this direction has ended and which is on no list, is the last of the
-    /// generation that such a page enters by this placement (kernel: folio_putback_lru, lru_gen_add_folio).
+    /// Adds the page to the end of the generation that this placement chooses for it (kernel: folio_putback_lru,
+    /// lru_gen_add_folio). Its transfer in this direction has ended, and it is on no list.
     pub fn putback(
         &mut self,
         group: GroupId,
@@ -124,8 +124,8 @@ impl HeldPages {
         self.gens.add(group, page, kind, seq);
     }
 
-    /// The number of the second oldest generation of pages of files, where that is none of the two youngest, and
-    /// else of the oldest (kernel: lru_gen_is_active).
+    /// The number of the second oldest generation of file pages, unless that is one of the two youngest. Then the
+    /// number of the oldest (kernel: lru_gen_is_active).
     fn second_oldest(&self, group: GroupId) -> u64
         requires { group.0 < length self.now.lists.groups }
         ensures { result ≡ second_oldest (gens_at self.now.lists.groups group.0).max_seq (gens_at self.now.lists.groups group.0).file.min_seq }
@@ -139,7 +139,7 @@ impl HeldPages {
         }
     }
 
-    /// The page leaves its list with its mark, and all others keep their places (kernel: folio_isolate_lru).
+    /// Removes the page from its list, with its mark. All others keep their places (kernel: folio_isolate_lru).
     pub fn isolate(&mut self, page: PageId)
         requires listed { is_listed_in self.old.lists.groups page.0 ≡ true }
         requires number { page.0 < self.old.numbers }
@@ -149,7 +149,7 @@ impl HeldPages {
         self.marks.clear(page);
     }
 
-    /// The page leaves its list with its mark, if it is on one.
+    /// Removes the page from its list, with its mark, if it is on one.
     pub fn unlist(&mut self, page: PageId)
         requires { page.0 < self.old.numbers }
         ensures listed { (g : ℕ) → is_listed (gens_at self.old.lists.groups g) page.0 ≡ true → self.new ≡ record self.old { lists = left self.old.lists g page.0 } }
@@ -160,8 +160,8 @@ impl HeldPages {
         }
     }
 
-    /// All pages of one group come to another's lists: to the second youngest generation, behind the pages that
-    /// are there, the oldest first, and marked as they were.
+    /// Moves all pages of one group to the end of another's second youngest generation, the oldest first. They
+    /// keep their marks.
     pub fn take_over(&mut self, from: GroupId, to: GroupId)
         requires from { from.0 < length self.old.lists.groups }
         requires to { to.0 < length self.old.lists.groups }
@@ -171,7 +171,7 @@ impl HeldPages {
         self.gens.take_over(from, to);
     }
 
-    /// The page is marked as accessed.
+    /// Marks the page as accessed.
     pub fn mark(&mut self, page: PageId)
         requires { page.0 < self.old.numbers }
         ensures marked { self.new ≡ record self.old { lists = record { groups = self.old.lists.groups; marks = slice_set self.old.lists.marks page.0 true } } }
@@ -180,7 +180,7 @@ impl HeldPages {
         self.marks.set(page);
     }
 
-    /// The page of the group that is evicted next; it stands on its list still.
+    /// The page of the group that is evicted next. It is still on its list.
     pub fn pick(&mut self, group: GroupId, swap_free: bool) -> PageId
         requires group { group.0 < length self.old.lists.groups }
         requires usable { has_usable swap_free (gens_at self.old.lists.groups group.0) ≡ true }

@@ -5,7 +5,8 @@ ghost use Rattle.lru_gen.specs.Filled.{usable, with_flag, joined};
 
 use machine::record::Kind;
 
-/// Whether a group has a page of each type. It is kept beside the lists, so that a group is asked for a page at one look.
+/// Whether a group has a page of each type. It is stored apart from the lists, so one look shows whether a group has a
+/// page.
 #[derive(Clone, Copy)]
 pub struct Filled {
     pub anon: bool,
@@ -19,14 +20,14 @@ impl Filled {
         file: false,
     };
 
-    /// Whether there is a page that may be taken: a file page, or an anonymous one where a swap block is free.
+    /// Whether there is a reclaimable page: a file page, or an anonymous one if a swap block is free.
     pub fn has_usable(self, swap_free: bool) -> bool
         ensures { result ≡ usable swap_free self }
     {
         self.file || (swap_free && self.anon)
     }
 
-    /// Whether there is a page of this type is so from now on.
+    /// Sets whether there is a page of this type.
     pub fn set(&mut self, kind: Kind, to: bool)
         ensures { self.new ≡ with_flag kind to self.old }
     {
@@ -36,7 +37,7 @@ impl Filled {
         }
     }
 
-    /// The pages of another group come to those of this one.
+    /// Adds the pages of another group to those of this one.
     pub fn join(&mut self, more: Filled)
         ensures { self.new ≡ joined self.old more }
     {

@@ -22,22 +22,22 @@ use std::alloc::{AllocError, Global};
 use std::marker::Model;
 use std::mem::size_of;
 
-// Lists are counted in 31 bits, and each group has eight.
+// 31 bits count the lists, and each group has eight.
 const MAX_GROUPS: usize = (1 << 28) - 1;
 
-// What the first lines of the crate tell of a group, beside its eight lists of 8 bytes each.
+// The bytes of a group that the first lines of the crate state, without its eight lists of 8 bytes each.
 const _: () = prove!(size_of::<Numbers>() + size_of::<Filled>() == 26);
 
 /// The pages of all groups, on a list for each group, type and generation (kernel: `struct lru_gen_folio`).
 ///
-/// A contract sees the lists of each type of a group as one row by rising sequence number. No call walks a list, and
-/// none but [`Gens::open`] and [`Gens::reserve_group`] takes memory.
+/// A contract sees the lists of each type of a group as one row by rising sequence number. No call walks a list. Only
+/// [`Gens::open`] and [`Gens::reserve_group`] allocate memory.
 #[derive(Drop)]
 pub struct Gens {
     rings: Rings,
     // By group.
     numbers: Vec<Numbers>,
-    // By group too, and apart from the numbers, so that whoever asks many groups reads two bytes of each.
+    // By group too, and apart from the numbers, so a look at many groups reads only two bytes of each.
     filled: Vec<Filled>,
 }
 
@@ -60,8 +60,8 @@ impl Model for Gens {
 }
 
 impl Gens {
-    /// No group, and pages with numbers below this. `AllocError` where there is no memory for their links, or where
-    /// they are 2^31 or more.
+    /// No group, and pages with numbers below this. `AllocError` if there is no memory for their links, or if there are
+    /// 2^31 or more.
     pub fn open(alloc: Global, pages: usize) -> Result<Self, AllocError>
         ensures { IfOk result (λ s. s ≡ record { groups = []; pages = pages; room = 0 }) }
     {
@@ -75,8 +75,8 @@ impl Gens {
         })
     }
 
-    /// Asks for the memory of one group more. `AllocError` where there is none, or where there are 2^28 - 1 groups; the
-    /// lists are the same either way.
+    /// Reserves the memory for another group. `AllocError` if memory runs out, or if there are 2^28 - 1 groups. The
+    /// lists do not change in either case.
     pub fn reserve_group(&mut self) -> Result<(), AllocError>
         ensures room { OnOk result (0 < self.new.room) }
         ensures groups { self.new.groups ≡ self.old.groups }
@@ -93,7 +93,7 @@ impl Gens {
         Ok(())
     }
 
-    /// A group more, with no page. Its memory was asked for by [`Gens::reserve_group`].
+    /// Adds a group without pages. [`Gens::reserve_group`] reserved its memory.
     pub fn add_group_reserved(&mut self)
         requires room { 0 < self.old.room }
         ensures groups { self.new.groups ≡ self.old.groups ++ new_gens ∷ [] }
@@ -123,7 +123,7 @@ impl Gens {
         self.rings.numbers() as usize
     }
 
-    /// Nothing is done: what always holds of the lists.
+    /// Does nothing. The contract states what always holds of the lists.
     pub fn is_sound(&self)
         ensures { IsSound self.now }
     {
@@ -137,8 +137,8 @@ impl Gens {
         self.rings.is_listed(page)
     }
 
-    /// The stored link of a page, or of the head of a list, which is lent. `None` for a page that is on no list, and for a
-    /// list that is not there. The list of a generation has the number that [`list_of`] gives.
+    /// Lends the stored link of a page, or of the head of a list. `None` for a page that is on no list, and for a list
+    /// that does not exist. The list of a generation has the number that [`list_of`] gives.
     pub fn link(&self, node: RingNode) -> Option<&Link>
         ensures there { is_some result ≡ is_there (lists_of self.now.groups) node }
         ensures link { IfSome (option_copied result) (λ link. IsLinkOf (lists_of self.now.groups) node link) }
@@ -188,8 +188,8 @@ impl Gens {
         first_from(&self.rings, group, kind, oldest, 0)
     }
 
-    /// Whether the group has a page that may be taken: a file page, or an anonymous one and a swap block for it. It looks
-    /// at what is kept of each type, and at no list.
+    /// Whether the group has a reclaimable page: a file page, or an anonymous one if a swap block is free. It reads
+    /// what is stored for each type, and no list.
     pub fn has_usable(&self, group: GroupId, swap_free: bool) -> bool
         requires { group.0 < length self.now.groups }
         ensures { result ≡ has_usable swap_free (gens_of self.now group.0) }
@@ -197,8 +197,7 @@ impl Gens {
         self.filled[group.0 as usize].has_usable(swap_free)
     }
 
-    /// The page that stands behind this one among those of its type: on its list, or the first of a younger
-    /// generation.
+    /// The page after this one among the pages of its type: the next on its list, or the first of a younger generation.
     pub fn after(&self, group: GroupId, kind: Kind, page: PageId) -> Option<PageId>
         requires group { group.0 < length self.now.groups }
         requires listed { has_page page.0 (row_of kind (gens_of self.now group.0)).pages ≡ true }
@@ -215,8 +214,8 @@ impl Gens {
         }
     }
 
-    /// A page that is on no list enters a generation of the group, behind those that are there (kernel:
-    /// lru_gen_add_folio). Takes no memory.
+    /// Adds a page that is on no list to the end of a generation of the group (kernel: lru_gen_add_folio). Allocates no
+    /// memory.
     pub fn add(&mut self, group: GroupId, page: PageId, kind: Kind, seq: u64)
         requires group { group.0 < length self.old.groups }
         requires number { page.0 < self.old.pages }
@@ -235,7 +234,7 @@ impl Gens {
         filled.set(kind, true);
     }
 
-    /// A page leaves its list (kernel: lru_gen_del_folio).
+    /// Removes a page from its list (kernel: lru_gen_del_folio).
     pub fn isolate(&mut self, page: PageId)
         requires { is_listed_in self.old.groups page.0 ≡ true }
         ensures groups { (g : ℕ) → is_listed (gens_of self.old g) page.0 ≡ true → self.new ≡ sets self.old g (isolated page.0 (gens_of self.old g)) }
@@ -246,7 +245,7 @@ impl Gens {
         self.rings.lists_are_apart();
         let emptied = alone_on(&self.rings, page);
         self.rings.remove(page);
-        // A type loses its last page only with one that was alone on its list.
+        // A type loses its last page only if that page was alone on its list.
         if let Some(list) = emptied {
             let (group, kind) = type_of(list);
             let oldest = self.numbers[group.0 as usize].min_seq(kind);
@@ -256,9 +255,9 @@ impl Gens {
         }
     }
 
-    /// All pages of one group come to another's lists: those of each type to its second youngest generation, behind the
-    /// pages that are there, the oldest first (kernel: the pages of a memory cgroup that goes offline are its parent's).
-    /// Takes no memory, and as long for many pages as for few.
+    /// Moves all pages of one group to another's lists (kernel: the pages of a memory cgroup that goes offline become
+    /// its parent's). Those of each type follow the pages of its second youngest generation, the oldest first.
+    /// Allocates no memory, and takes the same time for any number of pages.
     pub fn take_over(&mut self, from: GroupId, to: GroupId)
         requires from { from.0 < length self.old.groups }
         requires to { to.0 < length self.old.groups }
@@ -279,13 +278,13 @@ impl Gens {
         self.filled[from.0 as usize] = Filled::NONE;
     }
 
-    /// The oldest generation of a type that has four becomes the front of the next (kernel: inc_min_seq).
+    /// Moves the oldest generation of a type that has four to the front of the next (kernel: inc_min_seq).
     pub fn merge_oldest(&mut self, group: GroupId, kind: Kind)
         requires group { group.0 < length self.old.groups }
         requires four { (row_of kind (gens_of self.old group.0)).min_seq + 3 ≡ (gens_of self.old group.0).max_seq }
         ensures groups { self.new ≡ sets self.old group.0 (on_row kind merged (gens_of self.old group.0)) }
-        // At most five nodes' links change: those of the two heads, of the first and the last page that come, and of the
-        // page in front of which they come.
+        // At most five nodes' links change: those of the two heads, of the first and the last moved page, and of the
+        // page that follows them.
         ensures few { KeepsLinksOfMerge (lists_of self.old.groups) (lists_of self.new.groups)
             (slot group.0 kind (row_of kind (gens_of self.old group.0)).min_seq)
             (slot group.0 kind ((row_of kind (gens_of self.old group.0)).min_seq + 1)) }
@@ -295,7 +294,7 @@ impl Gens {
             .splice_front(list_of(group, kind, next - 1), list_of(group, kind, next));
     }
 
-    /// The oldest generation of a type, which is empty, is no more (kernel: try_to_inc_min_seq).
+    /// Ends the oldest generation of a type, which is empty (kernel: try_to_inc_min_seq).
     pub fn raise_min(&mut self, group: GroupId, kind: Kind)
         requires group { group.0 < length self.old.groups }
         requires three { (row_of kind (gens_of self.old group.0)).min_seq + 2 ≤ (gens_of self.old group.0).max_seq }
@@ -306,7 +305,7 @@ impl Gens {
         let _ = self.numbers[group.0 as usize].raise_min_seq(kind);
     }
 
-    /// A younger generation begins, of no page yet (kernel: inc_max_seq).
+    /// Begins a younger generation, without pages (kernel: inc_max_seq).
     pub fn advance(&mut self, group: GroupId)
         requires group { group.0 < length self.old.groups }
         requires anon { (gens_of self.old group.0).max_seq ≤ (gens_of self.old group.0).anon.min_seq + 2 }

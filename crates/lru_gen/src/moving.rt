@@ -1,4 +1,4 @@
-//! How one group's pages come to another's lists.
+//! How one group's pages move to another's lists.
 
 ghost use Rattle.std.specs.Prelude.{◌≡◌, ◌≢◌, ◌+◌, ◌*◌, ◌<◌, ◌≤◌, ◌^◌, length};
 ghost use Rattle.lru_gen.specs.Rows.{HaveMoved};
@@ -8,8 +8,8 @@ use machine::id::GroupId;
 use machine::record::Kind;
 use rings::Rings;
 
-/// The pages of a type's four generations of one group, from its oldest on, come behind those of another group's
-/// generation.
+/// Moves the pages of a group's four generations of one type, from the oldest on, to the end of a
+/// generation of another group.
 pub fn move_pages(rings: &mut Rings, from: GroupId, oldest: u64, to: GroupId, seq: u64, kind: Kind)
     requires from { from.0 < 2 ^ 28 }
     requires from_lists { from.0 * 8 + 8 ≤ length rings.old.lists }

@@ -9,7 +9,7 @@ use machine::id::GroupId;
 use machine::record::Kind;
 use rings::ListId;
 
-/// The sequence numbers of a group's generations: those of each type go from its oldest to the youngest.
+/// The sequence numbers of a group's generations: for each type, from its oldest to the youngest.
 #[derive(Clone, Copy)]
 pub struct Numbers {
     pub max_seq: u64,
@@ -37,20 +37,20 @@ impl Numbers {
         }
     }
 
-    /// The next generation of a type is the oldest from now on. Its number is returned.
+    /// Makes the next generation of a type the oldest. Returns its number.
     pub fn raise_min_seq(&mut self, kind: Kind) -> u64
         requires { oldest kind self.old < self.old.max_seq }
         ensures raised { self.new ≡ with_oldest kind (oldest kind self.old + 1) self.old }
         ensures number { result ≡ oldest kind self.old + 1 }
     {
-        // The youngest number is read as well: since it fits, so does the oldest and one.
+        // The code also reads the youngest number: since it fits, so does the oldest plus one.
         let (oldest, _youngest) = (self.min_seq(kind), self.max_seq);
         self.set_min_seq(kind, oldest + 1);
         oldest + 1
     }
 }
 
-/// The list of a generation. Each type of each group has four, which its generations take in turn.
+/// The list of a generation. Each type of each group has four, which its generations use in turn.
 pub fn list_of(group: GroupId, kind: Kind, seq: u64) -> ListId
     requires { group.0 < 2 ^ 28 }
     ensures { result.0 ≡ slot group.0 kind seq }

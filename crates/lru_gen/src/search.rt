@@ -1,4 +1,4 @@
-//! Where the next page of a type is.
+//! The search for the next page of a type.
 
 ghost use Rattle.std.specs.Prelude.{◌≡◌, ◌+◌, ◌-◌, ◌*◌, ◌<◌, ◌≤◌, ◌%◌, ◌^◌, true, length, option_map, slice_get};
 ghost use Rattle.rings.specs.Rings.{is_listed};
@@ -10,7 +10,8 @@ use machine::id::{GroupId, PageId};
 use machine::record::Kind;
 use rings::{ListId, RingNode, Rings};
 
-/// The first page of a type's generations from a turn on, of which the oldest's is the first of four.
+/// The first page of a type's generations, from a turn on. The turn of the oldest generation is the
+/// first of four.
 pub fn first_from(
     rings: &Rings,
     group: GroupId,
@@ -32,7 +33,7 @@ pub fn first_from(
     None
 }
 
-/// Whether a type has a page, where its oldest generation has this number.
+/// Whether a type has a page. Its oldest generation has this number.
 #[tactic(auto, using(crate::proofs::SearchLemmas::first_tells))]
 pub fn has_any(rings: &Rings, group: GroupId, kind: Kind, oldest: u64) -> bool
     requires group { group.0 < 2 ^ 28 }
@@ -42,7 +43,7 @@ pub fn has_any(rings: &Rings, group: GroupId, kind: Kind, oldest: u64) -> bool
     first_from(rings, group, kind, oldest, 0).is_some()
 }
 
-/// What comes behind a page on its list.
+/// The node after a page on its list.
 pub fn behind(rings: &Rings, page: PageId) -> RingNode
     requires { is_listed rings.now.lists page.0 ≡ true }
     ensures { IsBehind rings.now.lists page.0 result }
@@ -53,7 +54,7 @@ pub fn behind(rings: &Rings, page: PageId) -> RingNode
     }
 }
 
-/// The list on which a page stands alone, if it does.
+/// The list of a page that is alone on it, or `None` if other pages are on its list.
 pub fn alone_on(rings: &Rings, page: PageId) -> Option<ListId>
     requires { is_listed rings.now.lists page.0 ≡ true }
     ensures { IsAlone rings.now.lists page.0 result }

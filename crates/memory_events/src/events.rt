@@ -14,14 +14,14 @@ use std::alloc::{AllocError, Global};
 use std::marker::Model;
 
 /// How often each key was counted at each group, and at it or anywhere below it (kernel:
-/// `memory_events_local` and `memory_events` of a `struct mem_cgroup`). A removed group's numbers
-/// stay, and so does its part in the numbers of the groups above it.
+/// `memory_events_local` and `memory_events` of a `struct mem_cgroup`). A removed group keeps its
+/// numbers, and the numbers of the groups above it still include them.
 #[derive(Drop)]
 pub struct Events {
     lineage: Lineage,
-    /// By group: what was counted at the group or anywhere below it.
+    /// By group: the counts of the group and of all groups below it.
     totals: Vec<EventCounts>,
-    /// By group: what was counted at the group itself.
+    /// By group: the counts of the group itself.
     locals: Vec<EventCounts>,
 }
 
@@ -41,7 +41,7 @@ impl Model for Events {
 }
 
 impl Events {
-    /// The root alone, with nothing counted. `AllocError` where there is no memory for it.
+    /// Only the root, with nothing counted. `AllocError` if there is no memory for it.
     pub fn new(alloc: Global) -> Result<Self, AllocError>
         ensures tree { IfOk result (λ e. e.tree ≡ bare None ∷ []) }
         ensures counted { IfOk result (λ e. e.counted ≡ no_counts ∷ []) }
@@ -58,8 +58,8 @@ impl Events {
         })
     }
 
-    /// Asks for the memory of one group more. `AllocError` where there is none; the groups and their
-    /// counts are the same either way.
+    /// Reserves the memory for another group. `AllocError` if memory runs out. The groups and their
+    /// counts do not change in either case.
     pub fn reserve(&mut self) -> Result<(), AllocError>
         ensures room { OnOk result (0 < self.new.room) }
         ensures tree { self.new.tree ≡ self.old.tree }
@@ -72,8 +72,7 @@ impl Events {
         self.locals.reserve(1)
     }
 
-    /// A group more, below another, with nothing counted. Its memory was asked for by
-    /// [`Events::reserve`].
+    /// Adds a group below another, with nothing counted. [`Events::reserve`] reserved its memory.
     pub fn add_reserved(&mut self, group: GroupId, parent: GroupId)
         requires room { 0 < self.old.room }
         requires next { group.0 ≡ length self.old.tree }
@@ -89,8 +88,8 @@ impl Events {
         self.locals.push_reserved(EventCounts::default());
     }
 
-    /// A group more, below another, with nothing counted. `AllocError` where there is no memory for
-    /// it, and then nothing changes.
+    /// Adds a group below another, with nothing counted. `AllocError` if there is no memory for it,
+    /// and then nothing changes.
     pub fn add(&mut self, group: GroupId, parent: GroupId) -> Result<(), AllocError>
         requires next { group.0 ≡ length self.old.tree }
         requires parent { is_live self.old.tree parent.0 ≡ true }
@@ -106,7 +105,7 @@ impl Events {
         Ok(())
     }
 
-    /// The group is no more. It is not the root, and none hangs below it. Its numbers stay.
+    /// Removes the group. It is not the root and has no children. Its numbers remain.
     pub fn remove(&mut self, group: GroupId)
         requires below { 0 < group.0 }
         requires live { is_live self.old.tree group.0 ≡ true }
@@ -148,7 +147,7 @@ impl Events {
         self.locals[group.0 as usize]
     }
 
-    /// Nothing is done: what holds of all counts. Each group has its own.
+    /// Does nothing. The contract states what holds of all counts. Each group has its own.
     pub fn are_counted(&self)
         ensures lineage { IsLineage self.now.tree }
         ensures counted { length self.now.counted ≡ length self.now.tree }

@@ -5,7 +5,7 @@ ghost use Rattle.machine.specs.Counts.{count_of_key, once_more};
 
 use machine::record::{EventCounts, Key};
 
-/// Counts the key once more.
+/// Adds one to the count of the key.
 pub(crate) fn count_once(counts: &mut EventCounts, key: Key)
     requires { count_of_key counts.old key < u64.MAX }
     ensures { counts.new ≡ once_more counts.old key }

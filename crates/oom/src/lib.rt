@@ -1,33 +1,31 @@
-//! Whom the out-of-memory killer takes, where room is wanted under a limit and no page can be
-//! reclaimed (kernel: mm/oom_kill.c, select_bad_process and oom_badness), and whom with it (kernel:
-//! mm/memcontrol.c, mem_cgroup_get_oom_group).
+//! The victim of the OOM killer, when room is needed under a limit and no page can be reclaimed
+//! (kernel: mm/oom_kill.c, select_bad_process and oom_badness). Also the group that dies with the
+//! victim (kernel: mm/memcontrol.c, mem_cgroup_get_oom_group).
 //!
 //! 1. A candidate is a live task whose group is the limit group or below it. A task that has ended
-//!    has no mappings left, and one that lives elsewhere is not bound by the limit.
-//! 2. Of the candidates it takes the one with the most mappings: one for each of its virtual pages
-//!    that shows a page, wherever that page stands. A page that several tasks share counts for
+//!    has no mappings left, and the limit does not apply to a task in another group.
+//! 2. The victim is the candidate with the most mappings. Each of its virtual pages that maps a page
+//!    counts as one, wherever that page is. A page that several tasks share counts for
 //!    each of them in full.
-//! 3. Of several with as many it takes the one of the least number. A candidate without mappings
-//!    is taken too, where none has more.
-//! 4. Where there is no candidate, it takes nobody.
-//! 5. On the way from the victim's group up to the limit group, both counted, it looks for groups that
-//!    are to be taken as one (`memory.oom.group`). Where there is one, the highest of them dies with the
-//!    victim: all live tasks in it and below it. A group above the limit is not looked at, and one beside
-//!    the way isn't either.
+//! 3. If several candidates have the most mappings, the victim is the one with the lowest number. A
+//!    candidate without mappings is the victim only if no candidate has any.
+//! 4. If there is no candidate, there is no victim.
+//! 5. The killer then checks the groups from the victim's group up to the limit group, including both, for
+//!    `1` in `memory.oom.group`. If any has it, the highest of them dies with the victim: all live tasks
+//!    in and below it. No other group is checked.
 //!
-//! So for the limit group `/a`:
+//! For example, for the limit group `/a`:
 //!
 //! ```text
 //! task   group    life     mappings
 //!    1   /a       live            2
-//!    2   /a/b     live            5   taken: it has as many as task 3, and the lesser number
+//!    2   /a/b     live            5   victim: 5 mappings like task 3, and the lower number
 //!    3   /a       live            5
 //!    4   /a       exited          0   (no candidate: rule 1)
 //!    5   /c       live            9   (no candidate: rule 1)
 //! ```
 //!
-//! With the flag on `/a/b` task 2 dies with all of `/a/b`, and task 3 lives on; with the flag on `/a` too,
-//! tasks 1 to 3 die.
+//! If `/a/b` has the flag, task 2 dies with all of `/a/b`, and task 3 survives. If `/a` has it too, tasks 1 to 3 die.
 #![tactic(auto)]
 
 ghost use Rattle.std.specs.Prelude.{◌≡◌, ◌+◌, true, Some, if◌then◌else◌, option_map};
@@ -42,26 +40,27 @@ use machine::id::{GroupId, TaskId};
 use machine::record::{Life, OomGroup};
 use spaces::Spaces;
 
-/// A candidate, with how many mappings it has.
+/// A candidate, and its number of mappings.
 #[derive(Clone, Copy)]
 struct Candidate {
     task: TaskId,
     size: usize,
 }
 
-/// Who is to be killed (kernel: `chosen` of a `struct oom_control`).
+/// The tasks to kill (kernel: `chosen` of a `struct oom_control`).
 #[derive(Clone, Copy, Debug, PartialEq, Eq)]
 pub struct Chosen {
-    /// The worst task.
+    /// The victim: the task with the most mappings.
     pub victim: TaskId,
-    /// The group that dies with it: all its live tasks and those below it. `None` where the task dies alone.
+    /// The group that dies with the victim: all live tasks in and below it. `None` if only the victim dies.
     pub group: Option<GroupId>,
 }
 
-/// Who is to be killed for room under the limit: the worst task there, and the highest group that is
-/// to be taken as one on the way from its group up to the limit, if one is (kernel: out_of_memory, oom_kill_process).
+/// The tasks to kill for room under the limit: the victim, and the group that dies with it, if there is one (kernel:
+/// out_of_memory, oom_kill_process). This group is the highest one with the flag, from the victim's group up to the
+/// limit.
 ///
-/// It looks at each task number once, and then at the groups on this way.
+/// The call looks at each task number once, and then at these groups.
 pub fn victims(tree: &Tree, spaces: &Spaces, flags: &Flags, limit: GroupId) -> Option<Chosen>
     ensures { IsVictims tree.now flags.now.flags spaces.now.tasks spaces.now.page_tables limit.0 (option_map pair_of result) }
 {
@@ -73,8 +72,7 @@ pub fn victims(tree: &Tree, spaces: &Spaces, flags: &Flags, limit: GroupId) -> O
     Some(Chosen { victim, group })
 }
 
-/// The highest group that is to be taken as one, from this group up to the limit (kernel:
-/// mem_cgroup_get_oom_group).
+/// The highest group with the flag, from this group up to the limit (kernel: mem_cgroup_get_oom_group).
 pub fn kill_group(tree: &Tree, flags: &Flags, limit: GroupId, group: GroupId) -> Option<GroupId>
     requires { under tree.now limit.0 group.0 ≡ true }
     ensures { option_map (λ g. g.0) result ≡ kill_group tree.now flags.now.flags limit.0 group.0 }
@@ -92,7 +90,7 @@ pub fn kill_group(tree: &Tree, flags: &Flags, limit: GroupId, group: GroupId) ->
     highest
 }
 
-/// The highest group so far that is to be taken as one, one more being looked at, which is higher.
+/// The highest group with the flag so far, after a look at another group, which is higher.
 fn highest_with(flags: &Flags, highest: Option<GroupId>, here: GroupId) -> Option<GroupId>
     ensures { number result ≡ (if is_flagged flags.now.flags here.0 then Some here.0 else number highest) }
 {
@@ -102,11 +100,11 @@ fn highest_with(flags: &Flags, highest: Option<GroupId>, here: GroupId) -> Optio
     }
 }
 
-/// The live task at or under the limit with the most mappings, the least number of several
-/// (kernel: select_bad_process).
+/// The live task at or under the limit with the most mappings; of equals, the one with the lowest number (kernel:
+/// select_bad_process).
 ///
-/// It looks at each task number once. A live task costs a walk up the tree from its group. How many
-/// mappings a task has is kept with its page table.
+/// The call looks at each task number once. For a live task it walks up the tree from the task's group. A task's
+/// number of mappings is stored with its page table.
 pub fn victim(tree: &Tree, spaces: &Spaces, limit: GroupId) -> Option<TaskId>
     ensures { IsVictim tree.now spaces.now.tasks spaces.now.page_tables limit.0 (option_map (λ t. t.0) result) }
 {
@@ -117,7 +115,7 @@ pub fn victim(tree: &Tree, spaces: &Spaces, limit: GroupId) -> Option<TaskId>
     worst.map(|candidate| candidate.task)
 }
 
-/// The worst candidate so far, one more task being looked at, whose number is greater.
+/// The best candidate so far, after a look at another task, whose number is higher.
 fn worst_with(
     tree: &Tree,
     spaces: &Spaces,

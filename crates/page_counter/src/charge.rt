@@ -3,8 +3,8 @@
 use machine::id::GroupId;
 use std::marker::Model;
 
-/// One page charged to a group and to each group above it. It has no `Drop`, so it has to go back
-/// to the counters ([`crate::Counters::uncharge`]).
+/// One page charged to a group and to each group above it. It has no `Drop`: it must be returned to
+/// the counters ([`crate::Counters::uncharge`]).
 ///
 /// A contract sees it as the number of its group.
 #[must_use]
@@ -44,6 +44,6 @@ impl Charge {
     }
 }
 
-/// No charge: one page more would pass this group's max.
+/// No charge: another page would exceed this group's max.
 #[derive(Clone, Copy)]
 pub struct Over(pub GroupId);

@@ -1,4 +1,4 @@
-//! What the live children of each group ask for together.
+//! The sum of the claims of each group's live children.
 
 ghost use Rattle.std.specs.Prelude.{◌≡◌, ◌+◌, ◌<◌, ◌≤◌, ◌++◌, ◌∷◌, ℕ, [], length, slice_index, true, IfOk, OnOk, IsOk};
 ghost use Rattle.machine.specs.Tree.{node_at, is_live, is_child};
@@ -9,12 +9,12 @@ use machine::id::GroupId;
 use std::alloc::{AllocError, Global};
 use std::marker::Model;
 
-/// For each group, what its live children ask for together by one of their settings (kernel:
-/// `children_min_usage`, or `children_low_usage`, of a `struct page_counter`). It is kept, and not
-/// asked of them, so that it costs a look however many they are.
+/// For each group, the sum of its live children's claims by one of their settings (kernel:
+/// `children_min_usage`, or `children_low_usage`, of a `struct page_counter`). The sum is stored, so
+/// reading it takes one look, for any number of children.
 ///
-/// A contract sees the sums as a list by the groups' numbers, and for how many groups more there is
-/// memory.
+/// A contract sees the sums as a list by the groups' numbers, and for how many further groups there
+/// is memory.
 #[derive(Drop)]
 pub struct ChildSums {
     sums: Vec<u64>,
@@ -33,7 +33,7 @@ impl Model for ChildSums {
 }
 
 impl ChildSums {
-    /// The sum of the root alone, which has no child. `AllocError` where there is no memory for it.
+    /// The sum of only the root, which has no child. `AllocError` if there is no memory for it.
     pub fn new(alloc: Global) -> Result<Self, AllocError>
         ensures { IfOk result (λ c. c.sums ≡ 0 ∷ []) }
     {
@@ -42,8 +42,8 @@ impl ChildSums {
         Ok(ChildSums { sums })
     }
 
-    /// Asks for the memory of one group more. `AllocError` where there is none; the sums are the same
-    /// either way.
+    /// Reserves the memory for another group. `AllocError` if memory runs out. The sums do not change
+    /// in either case.
     pub fn reserve(&mut self) -> Result<(), AllocError>
         ensures room { OnOk result (0 < self.new.room) }
         ensures sums { self.new.sums ≡ self.old.sums }
@@ -53,7 +53,7 @@ impl ChildSums {
         self.sums.reserve(1)
     }
 
-    /// A group more, which has no child.
+    /// Adds a group, which has no child.
     pub fn add_reserved(&mut self)
         requires room { 0 < self.old.room }
         ensures sums { self.new.sums ≡ self.old.sums ++ 0 ∷ [] }
@@ -62,7 +62,7 @@ impl ChildSums {
         self.sums.push_reserved(0);
     }
 
-    /// What the children of this group ask for together.
+    /// The sum of the claims of this group's children.
     pub fn of(&self, group: GroupId) -> &u64
         requires { group.0 < length self.now.sums }
         ensures { result.now ≡ slice_index self.now.sums group.0 }
@@ -70,8 +70,8 @@ impl ChildSums {
         &self.sums[group.0 as usize]
     }
 
-    /// The group asks for `after` where it asked for `before`: the sum of the group that it hangs
-    /// below, and no other, changes by as much (kernel: propagate_protected_usage).
+    /// The group's claim changes from `before` to `after`. Only its parent's sum changes, by the same
+    /// amount (kernel: propagate_protected_usage).
     pub fn propagate(&mut self, lineage: &Lineage, group: GroupId, before: u64, after: u64)
         requires live { is_live lineage.now.tree group.0 ≡ true }
         requires sums { length self.old.sums ≡ length lineage.now.tree }

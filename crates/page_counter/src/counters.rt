@@ -22,8 +22,8 @@ use std::marker::Model;
 /// For each group its limits, and how many pages are charged to it or below it (kernel: a
 /// `struct page_counter` for each group).
 ///
-/// A contract sees the groups, the limits and the counts as lists by the groups' numbers, and for
-/// how many groups more there is memory.
+/// A contract sees the groups, the limits and the counts as lists by the groups' numbers, and for how
+/// many further groups there is memory.
 #[derive(Drop)]
 pub struct Counters {
     lineage: Lineage,
@@ -47,8 +47,8 @@ impl Model for Counters {
 impl Counters {
     ghost use Rattle.page_counter.specs.Counts.{Charges, MovesUp, AreCounts, IsOut, over_in, usage_of};
 
-    /// The counters of the root alone: no limit, and no page charged. `AllocError` where there is
-    /// no memory for them.
+    /// The counters of only the root: no limit, and no page charged. `AllocError` if there is no memory
+    /// for them.
     pub fn new(alloc: Global) -> Result<Self, AllocError>
         ensures tree { IfOk result (λ c. c.tree ≡ bare None ∷ []) }
         ensures limits { IfOk result (λ c. c.limits ≡ no_limits ∷ []) }
@@ -69,8 +69,8 @@ impl Counters {
         })
     }
 
-    /// Asks for the memory of one group more. `AllocError` where there is none; the groups, their
-    /// limits and their counts are the same either way.
+    /// Reserves the memory for another group. `AllocError` if memory runs out. The groups, their limits
+    /// and their counts do not change in either case.
     pub fn reserve(&mut self) -> Result<(), AllocError>
         ensures room { OnOk result (0 < self.new.room) }
         ensures tree { self.new.tree ≡ self.old.tree }
@@ -86,8 +86,8 @@ impl Counters {
         self.sums.reserve()
     }
 
-    /// A group more, below another, with no limit and no page charged. Its memory was asked for by
-    /// [`Counters::reserve`].
+    /// Adds a group below another, with no limit and no page charged. [`Counters::reserve`] reserved
+    /// its memory.
     pub fn add_reserved(&mut self, group: GroupId, parent: GroupId)
         requires room { 0 < self.old.room }
         requires next { group.0 ≡ length self.old.tree }
@@ -106,8 +106,8 @@ impl Counters {
         self.sums.add_reserved();
     }
 
-    /// A group more, below another, with no limit and no page charged. `AllocError` where there is
-    /// no memory for it, and then the groups, their limits and their counts are the same.
+    /// Adds a group below another, with no limit and no page charged. `AllocError` if there is no
+    /// memory for it. Then the groups, their limits and their counts do not change.
     pub fn add(&mut self, group: GroupId, parent: GroupId) -> Result<(), AllocError>
         requires next { group.0 ≡ length self.old.tree }
         requires parent { is_live self.old.tree parent.0 ≡ true }
@@ -125,7 +125,7 @@ impl Counters {
         Ok(())
     }
 
-    /// The group is no more. It is not the root, none hangs below it, and no page is charged to it.
+    /// Removes the group. It is not the root, it has no children, and no page is charged to it.
     pub fn remove(&mut self, group: GroupId)
         requires below { 0 < group.0 }
         requires live { is_live self.old.tree group.0 ≡ true }
@@ -149,8 +149,8 @@ impl Counters {
         self.limits[group.0 as usize].max
     }
 
-    /// Sets how many pages may be charged to the group and below it (kernel: page_counter_set_max).
-    /// More may be charged already: then no page more is, until fewer are.
+    /// Sets how many pages may be charged to the group and below it (kernel: page_counter_set_max). The
+    /// count may already be above the new max. Then no page is charged until the count falls below it.
     pub fn set_max(&mut self, group: GroupId, max: Amount)
         requires live { is_live self.old.tree group.0 ≡ true }
         ensures limits { self.new.limits ≡ slice_set self.old.limits group.0 (record (limits_at self.old.limits group.0) { max = max }) }
@@ -162,8 +162,8 @@ impl Counters {
         self.limits[group.0 as usize].max = max;
     }
 
-    /// Up to how many pages that it uses, with all below it, the group asks to be protected, by
-    /// `memory.min` or `memory.low`.
+    /// How many of the pages that it and all groups below it use the group claims to protect, at most,
+    /// by `memory.min` or `memory.low`.
     pub fn guard(&self, guard: Guard, group: GroupId) -> Amount
         requires live { is_live self.now.tree group.0 ≡ true }
         ensures { result ≡ guard_of guard (limits_at self.now.limits group.0) }
@@ -171,8 +171,8 @@ impl Counters {
         self.limits[group.0 as usize].guard(guard)
     }
 
-    /// Sets up to how many pages that it uses, with all below it, the group asks to be protected
-    /// (kernel: page_counter_set_min, page_counter_set_low).
+    /// Sets how many of the pages that it and all groups below it use the group claims to protect, at
+    /// most (kernel: page_counter_set_min, page_counter_set_low).
     pub fn set_guard(&mut self, guard: Guard, group: GroupId, amount: Amount)
         requires live { is_live self.old.tree group.0 ≡ true }
         ensures limits { self.new.limits ≡ slice_set self.old.limits group.0 (with_guard (limits_at self.old.limits group.0) guard amount) }
@@ -182,7 +182,7 @@ impl Counters {
         ensures counted { (charges : List ℕ) → AreCounts self.old charges → AreCounts self.new charges }
     {
         self.lineage.is_lineage();
-        // What the children ask for fits, since no count is too large.
+        // The sum of the children's claims fits its type, since no count is too large.
         counts_fit(&self.usage);
         let usage = self.usage[group.0 as usize];
         let limits = self.limits[group.0 as usize];
@@ -193,7 +193,7 @@ impl Counters {
             .propagate(&self.lineage, guard, group, before, after);
     }
 
-    /// How many of the pages that are charged to the group or below it it asks to be protected (kernel:
+    /// The group's claim: how many of the pages charged to it or below it are to be protected (kernel:
     /// `min_usage` and `low_usage` of a `struct page_counter`).
     pub fn guard_usage(&self, guard: Guard, group: GroupId) -> u64
         requires live { is_live self.now.tree group.0 ≡ true }
@@ -202,8 +202,8 @@ impl Counters {
         self.guard(guard, group).at_most(self.usage(group))
     }
 
-    /// The sum of `guard_usage` over the live groups that hang below this one (kernel:
-    /// `children_min_usage` and `children_low_usage` of a `struct page_counter`).
+    /// The sum of `guard_usage` over the live children of this group (kernel: `children_min_usage` and
+    /// `children_low_usage` of a `struct page_counter`).
     pub fn children_guard_usage(&self, guard: Guard, group: GroupId) -> &u64
         requires live { is_live self.now.tree group.0 ≡ true }
         ensures { result.now ≡ children_min_usage self.now.tree (setting_of guard self.now.limits) (usage_of self.now) group.0 }
@@ -219,8 +219,8 @@ impl Counters {
         self.usage[group.0 as usize]
     }
 
-    /// The lowest group from this one up whose max one page more would pass, if there is one: the one
-    /// that [`Counters::try_charge`] would name (kernel: mem_cgroup_margin).
+    /// The lowest group, from this one up, whose max another page would exceed, if there is one. It is
+    /// the group that [`Counters::try_charge`] would name (kernel: mem_cgroup_margin).
     pub fn over(&self, group: GroupId) -> Option<GroupId>
         requires live { is_live self.now.tree group.0 ≡ true }
         ensures { option_map (λ g. g.0) result ≡ over_in self.now group.0 }
@@ -231,7 +231,7 @@ impl Counters {
 
     /// Charges a page to the group and to each group above it (kernel: page_counter_try_charge).
     ///
-    /// `Over` where that would pass a max, with the lowest group whose max it is. Then nothing is
+    /// `Over` if that would exceed a max. It names the lowest group with such a max, and nothing is
     /// charged.
     pub fn try_charge(&mut self, group: GroupId) -> Result<Charge, Over>
         requires live { is_live self.old.tree group.0 ≡ true }
@@ -250,7 +250,7 @@ impl Counters {
         Ok(Charge::new(group))
     }
 
-    /// Takes a charge back: a page less at its group and at each group above it (kernel:
+    /// Uncharges a page: the counts of its group and of each group above it decrease by one (kernel:
     /// page_counter_uncharge).
     pub fn uncharge(&mut self, charge: Charge)
         requires out { IsOut self.old charge }
@@ -264,8 +264,8 @@ impl Counters {
         take_down(&self.lineage, &self.limits, usage, sums, group, None);
     }
 
-    /// Gives a charge to what its group hangs below: a page less at the group itself, and the same
-    /// above it (kernel: the charges of a removed group go to its parent).
+    /// Moves a charge to the parent of its group. The group's count decreases by one, and the counts
+    /// above it do not change (kernel: a removed group's charges become its parent's).
     pub fn reparent(&mut self, charge: Charge) -> Charge
         requires out { IsOut self.old charge }
         requires below { IsSome (node_at self.old.tree charge).parent }
@@ -284,8 +284,8 @@ impl Counters {
         Charge::new(parent)
     }
 
-    /// Nothing is done: what holds of all counters. The counts are those of some charges, so the groups
-    /// that hang below one count together no more than it does.
+    /// Does nothing. The contract states what holds of all counters. The counts are those of some list
+    /// of charges, so the children of a group together count no more than the group.
     pub fn are_counted(&self)
         ensures lineage { IsLineage self.now.tree }
         ensures limits { length self.now.limits ≡ length self.now.tree }
@@ -321,7 +321,7 @@ fn first_full(
     None
 }
 
-/// Adds one to the count of each group from this one up, or nothing where one of them is full.
+/// Adds one to the count of each group from this one up, or changes nothing if one of them is full.
 fn add_up(
     lineage: &Lineage,
     limits: &[Limits],
@@ -355,8 +355,8 @@ fn add_up(
     Ok(())
 }
 
-/// Takes one from the count of each group from this one up to `until`, which keeps its count, as
-/// do those above it.
+/// Subtracts one from the count of each group from this one up to `until`. The counts of `until` and of
+/// the groups above it do not change.
 fn take_down(
     lineage: &Lineage,
     limits: &[Limits],
@@ -386,14 +386,14 @@ fn take_down(
     }
 }
 
-/// Nothing is done: each count fits its type.
+/// Does nothing. The contract states that each count fits its type.
 fn counts_fit(usage: &[u64])
     ensures { (a : ℕ) → slice_index usage.now a ≤ 18446744073709551615 }
 {
     let _ = usage.len();
 }
 
-/// The group counts so many pages, and asks for what its limits let through of them (kernel: what
+/// Sets the group's count, and its claim to the part of it that its limits allow (kernel: what
 /// page_counter_try_charge and page_counter_cancel do at one counter).
 fn set_usage(
     lineage: &Lineage,
@@ -417,8 +417,8 @@ fn set_usage(
     usage[group.0 as usize] = pages;
 }
 
-/// The sum of what the children of the group's parent ask for by this setting, as it is where the group
-/// comes to count so many pages (kernel: propagate_protected_usage).
+/// Updates the sum of the claims of the parent's children by this setting, for the group's new count of
+/// pages (kernel: propagate_protected_usage).
 fn recount(
     lineage: &Lineage,
     limits: &[Limits],

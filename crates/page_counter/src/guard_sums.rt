@@ -1,4 +1,4 @@
-//! What the live children of each group ask for together, by each of the two settings that protect.
+//! The sums of the claims of each group's live children, by each of the two settings that protect.
 
 ghost use Rattle.std.specs.Prelude.{◌≡◌, ◌+◌, ◌<◌, ◌≤◌, ◌++◌, ◌∷◌, ℕ, [], length, slice_index, true, IfOk, OnOk, IsOk};
 ghost use Rattle.machine.specs.Tree.{node_at, is_live, is_child};
@@ -12,9 +12,9 @@ use machine::record::Guard;
 use std::alloc::{AllocError, Global};
 use std::marker::Model;
 
-/// For each group, what its live children ask for together by each of the two settings that protect.
+/// For each group, the sums of its live children's claims by each of the two settings that protect.
 ///
-/// A contract sees the sums of both as lists by the groups' numbers, and for how many groups more
+/// A contract sees the sums of both as lists by the groups' numbers, and for how many further groups
 /// there is memory.
 #[derive(Drop)]
 pub struct GuardSums {
@@ -33,7 +33,7 @@ impl Model for GuardSums {
 impl GuardSums {
     ghost use Rattle.page_counter.specs.GuardSums.{sums_in, IsOther};
 
-    /// The sums of the root alone, which has no child. `AllocError` where there is no memory for them.
+    /// The sums of only the root, which has no child. `AllocError` if there is no memory for them.
     pub fn new(alloc: Global) -> Result<Self, AllocError>
         ensures min { IfOk result (λ s. s.min ≡ 0 ∷ []) }
         ensures low { IfOk result (λ s. s.low ≡ 0 ∷ []) }
@@ -43,8 +43,8 @@ impl GuardSums {
         Ok(GuardSums { min, low })
     }
 
-    /// Asks for the memory of one group more. `AllocError` where there is none; the sums are the same
-    /// either way.
+    /// Reserves the memory for another group. `AllocError` if memory runs out. The sums do not change
+    /// in either case.
     pub fn reserve(&mut self) -> Result<(), AllocError>
         ensures room { OnOk result (0 < self.new.room) }
         ensures min { self.new.min ≡ self.old.min }
@@ -56,7 +56,7 @@ impl GuardSums {
         self.low.reserve()
     }
 
-    /// A group more, which has no child.
+    /// Adds a group, which has no child.
     pub fn add_reserved(&mut self)
         requires room { 0 < self.old.room }
         ensures min { self.new.min ≡ self.old.min ++ 0 ∷ [] }
@@ -67,7 +67,7 @@ impl GuardSums {
         self.low.add_reserved();
     }
 
-    /// What the children of this group ask for together by this setting.
+    /// The sum of the claims of this group's children by this setting.
     pub fn of(&self, guard: Guard, group: GroupId) -> &u64
         requires { group.0 < length (sums_in guard self.now) }
         ensures { result.now ≡ slice_index (sums_in guard self.now) group.0 }
@@ -78,7 +78,7 @@ impl GuardSums {
         }
     }
 
-    /// The group asks for `after` by this setting, where it asked for `before`.
+    /// The group's claim by this setting changes from `before` to `after`.
     pub fn propagate(
         &mut self,
         lineage: &Lineage,

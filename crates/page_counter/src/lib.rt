@@ -1,8 +1,8 @@
-//! Page counters: how many pages are charged to each group and below it, and no more than its max
-//! allows (kernel: mm/page_counter.c).
+//! Page counters: how many pages are charged to each group and below it, at most its max (kernel:
+//! mm/page_counter.c).
 //!
-//! A charge adds one page to a group and to each group above it, or nothing to any of them. It is
-//! a value that has to be given back.
+//! A charge adds one page to a group and to each group above it, or changes nothing. It is a value
+//! that must be given back.
 #![tactic(auto)]
 
 pub use charge::{Charge, Over};

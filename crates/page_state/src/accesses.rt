@@ -1,4 +1,4 @@
-//! Pages that are made, copied, read in and written.
+//! Making, copying, reading in and writing pages.
 
 ghost use Rattle.std.specs.Prelude.{◌≡◌, ℕ, ◌<◌, None, true, slice_index, IfOk, IfErr, OnOk, OnErr};
 ghost use Rattle.machine.specs.Tree.{is_live};
@@ -17,8 +17,8 @@ use pages::{InTicket, Source};
 use std::alloc::{AllocError, Global};
 
 impl State {
-    /// Whether a page can be charged to the group and brought into a frame, and if not, why: a max comes
-    /// before the want of a frame (kernel: try_charge_memcg).
+    /// Whether a page can be charged to the group and brought into a frame, and if not, why. A max without room is
+    /// reported before a lack of free frames (kernel: try_charge_memcg).
     pub fn room_for(&self, group: GroupId) -> Result<(), NoRoom>
         requires { is_live self.now.tables.tree group.0 ≡ true }
         ensures room { OnOk result (HasRoom self.now.tables group.0) }
@@ -34,8 +34,8 @@ impl State {
         Ok(())
     }
 
-    /// A page of zeros but for one byte, for a virtual page of a task that shows nothing. It is charged to
-    /// the group, which has room for it. Takes no memory.
+    /// Makes a page of zeros except for one byte, for a virtual page of a task that maps nothing. It is charged to
+    /// the group, which has room for it. Allocates no memory.
     pub fn hold(&mut self, task: TaskId, at: u32, group: GroupId, offset: u32, byte: u8)
         requires alive { lives self.old.tables.tasks task.0 ≡ true }
         requires inside { at < task_pages }
@@ -49,9 +49,9 @@ impl State {
         self.spaces.map(task, at, page);
     }
 
-    /// A page with the bytes of the page in a frame that a virtual page of a task shows, but for one byte, for
-    /// that virtual page, which shows it in its place. Others show the page too, and go on to show it. The copy
-    /// is charged to the group, which has room for it (kernel: `do_wp_page`, `wp_page_copy`). Takes no memory.
+    /// Makes a copy of a page, with one byte replaced. A virtual page of a task maps the original, which is in a
+    /// frame, and maps the copy from then on. Other virtual pages still map the original. The copy is charged to the
+    /// group, which has room for it (kernel: `do_wp_page`, `wp_page_copy`). Allocates no memory.
     pub fn copy(
         &mut self,
         task: TaskId,
@@ -83,17 +83,17 @@ impl State {
         self.parts.pages.write(page, offset as usize, byte);
     }
 
-    /// The pages that are held in the frames of these bits are marked as accessed: bit b is that of frame
-    /// `64 * word + b` (kernel: a walk over the accessed bits of page tables, `walk_mm`). Takes no memory.
+    /// Marks the pages that are held in the frames of these bits as accessed (kernel: a walk over the accessed bits
+    /// of page tables, `walk_mm`). Bit b belongs to frame `64 * word + b`. Allocates no memory.
     pub fn merge_marks(&mut self, word: u32, bits: u64)
         ensures { MergesFrames self.old self.new word bits }
     {
         merge_marks(&self.parts.pages, &mut self.parts.held, word, bits);
     }
 
-    /// Begins to read in what the source names, charged to the group, which has room for it: memory of that group on
-    /// its slot; or a page of a file that no page holds, from its home block (kernel: do_swap_page,
-    /// filemap_add_folio). `AllocError` where memory is refused, and then nothing changes.
+    /// Begins to read in what the source names, charged to the group, which has room for it. This is memory of that
+    /// group on its slot, or a page of a file that no page holds, from its home block (kernel: do_swap_page,
+    /// filemap_add_folio). `AllocError` if memory runs out, and then nothing changes.
     pub fn start_in(
         &mut self,
         alloc: Global,
@@ -117,7 +117,7 @@ impl State {
     }
 }
 
-/// The memory of a page's bytes that will arrive: zeros until then.
+/// The memory for the bytes of a page that will arrive: zeros until then.
 fn buffer(alloc: Global) -> Result<Box<[u8; FRAME_BYTES]>, AllocError>
     ensures zeros { IfOk result (λ bytes. (o : ℕ) → slice_index bytes.value o ≡ 0) }
 {

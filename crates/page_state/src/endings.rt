@@ -1,4 +1,4 @@
-//! How transfers end: the page is in its frame or on its block, or goes where nothing maps it.
+//! How transfers end: the page is in its frame or on its block, or is gone if nothing maps it.
 
 ghost use Rattle.std.specs.Prelude.{◌≡◌, ℕ, Some, true, is_some, slice_index};
 ghost use Rattle.machine.specs.Pages as residence;
@@ -15,13 +15,13 @@ use machine::record::Direction;
 use pages::{End, InTicket, OutTicket, Pages};
 
 impl State {
-    /// The read-in of the ticket's page has ended so. In its frame the page has the bytes that the ticket
-    /// read, which are handed out. Takes no memory.
+    /// Ends the read-in of the ticket's page in this way. If the page is in its frame, it has the bytes
+    /// that the ticket read. Returns those bytes. Allocates no memory.
     pub fn settle_in(&mut self, ticket: InTicket, end: End) -> PageBytes
         requires { is_in_flight In self.old.tables.pages ticket.number ≡ true }
         ensures ends { (p : ℕ) (label : Label) (f b : ℕ) → HasResidence self.old.tables.pages p label (residence.Coming f b ticket.number)
             → EndsTransfer self.old self.new In p ticket.number (ended_as end self.old.tables.page_tables p (labelled label (residence.Coming f b ticket.number)) f b) }
-        // What is seen of the page where it is there still.
+        // What is visible of the page, if it still exists.
         ensures arrives { (p : ℕ) (label : Label) (f b : ℕ) → HasResidence self.old.tables.pages p label (residence.Coming f b ticket.number) → end ≡ End.InFrame
             → is_some (page_at self.new.tables.pages p) ≡ true → (k : ℕ) → byte_in self.new.bytes p k ≡ slice_index ticket.bytes k }
         ensures bytes { result ≡ ticket.bytes }
@@ -35,7 +35,8 @@ impl State {
         bytes
     }
 
-    /// The write-out of the ticket's page has ended so. In its frame the page is as it was. Takes no memory.
+    /// Ends the write-out of the ticket's page in this way. If the page is in its frame, it is
+    /// unchanged. Allocates no memory.
     pub fn settle_out(&mut self, ticket: OutTicket, end: End)
         requires { is_in_flight Out self.old.tables.pages ticket.number ≡ true }
         ensures ends { (p : ℕ) (label : Label) (f b : ℕ) → HasResidence self.old.tables.pages p label (residence.Going f b ticket.number)
@@ -51,7 +52,7 @@ impl State {
     }
 }
 
-/// The page of the transfer in this direction that is in flight under the ticket.
+/// The page whose transfer in this direction is in flight under the ticket.
 fn page_in_flight(pages: &Pages, direction: Direction, ticket: TicketId) -> PageId
     requires { is_in_flight direction pages.now.pages ticket.0 ≡ true }
     ensures stands { (label : Label) × (f : ℕ) × (b : ℕ) × HasResidence pages.now.pages result.0 label (moving direction f b ticket.0) }

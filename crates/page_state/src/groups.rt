@@ -1,4 +1,4 @@
-//! Groups: made and set, what they show, and the events that are counted at them.
+//! Groups: making and setting them, what they show, and the events that are counted at them.
 
 ghost use Rattle.std.specs.Prelude.{◌≡◌, ◌≢◌, ℕ, ◌+◌, ◌<◌, Some, None, true, false, OnOk, OnErr};
 ghost use Rattle.machine.specs.Names.{parent_path};
@@ -41,7 +41,8 @@ impl State {
         self.parts.counters.usage(group)
     }
 
-    /// Of these, how many are memory of tasks, and how many pages of files. It goes over all page numbers.
+    /// How many of these pages are memory of tasks, and how many are pages of files. The call looks at all page
+    /// numbers.
     pub fn stat(&self, group: GroupId) -> MemoryStat
         requires { is_live self.now.tables.tree group.0 ≡ true }
         ensures { result ≡ stat_of self.now.tables group.0 }
@@ -106,7 +107,7 @@ impl State {
         self.events.count(group, key);
     }
 
-    /// Another value for a setting of the group. What is charged already stays.
+    /// Sets a new value for a setting of the group. Existing charges remain.
     pub fn set(&mut self, group: GroupId, setting: Setting)
         requires { is_live self.old.tables.tree group.0 ≡ true }
         ensures { self.new ≡ sets_in self.old group.0 setting }
@@ -118,8 +119,8 @@ impl State {
         }
     }
 
-    /// A group of this path below its parent, which is there. Memory is asked for before anything changes:
-    /// `AllocError` where it is refused, and then nothing changes.
+    /// Makes a group with this path below its parent, which exists. All memory is reserved before anything
+    /// changes: `AllocError` if it runs out, and then nothing changes.
     pub fn mkdir(&mut self, parent: GroupId, path: &str) -> Result<(), AllocError>
         requires none { mkdir_refusal self.old.tables.tree (bars_children self.old.tables.tasks) path.now ≡ None }
         requires parent { find_group self.old.tables.tree (parent_path path.now) ≡ Some parent.0 }
@@ -141,9 +142,9 @@ impl State {
         Ok(())
     }
 
-    /// A group goes, which has neither children nor tasks and is not the root. Its pages, those in transfer
-    /// and on their blocks too, are its parent's, and so are their charges (kernel: `cgroup_rmdir`,
-    /// `mem_cgroup_css_offline`). Takes no memory.
+    /// Removes a group that has neither children nor tasks and is not the root. Its pages, including those in
+    /// transfer and those on their blocks, become its parent's, and so do their charges (kernel: `cgroup_rmdir`,
+    /// `mem_cgroup_css_offline`). Allocates no memory.
     pub fn rmdir(&mut self, group: GroupId)
         requires { rmdir_refusal self.old.tables group.0 ≡ None }
         ensures { RemovesGroup self.old self.new group.0 }

@@ -1,4 +1,4 @@
-//! The joined parts, and what of them is read.
+//! The joined parts, and reading them.
 
 ghost use Rattle.std.specs.Prelude.{◌≡◌, ℕ, ◌+◌, ◌<◌, ◌≤◌, [], true, Some, IfSome, IfOk, length};
 ghost use Rattle.machine.specs.Tree.{is_live};
@@ -23,7 +23,7 @@ use std::alloc::{AllocError, Global};
 use std::marker::Model;
 
 /// The groups with their limits and flags, the pages with what they own, the tasks with what they map, and
-/// the counts of events. It must be spent, by [`State::close`].
+/// the counts of events. [`State::close`] must spend it.
 #[must_use]
 pub struct State {
     pub(crate) config: Config,
@@ -48,7 +48,7 @@ impl Model for State {
 }
 
 impl State {
-    /// The root alone, all frames and all swap blocks free.
+    /// Only the root, with all frames and all swap blocks free.
     pub fn open(alloc: Global, config: Config) -> Result<State, AllocError>
         requires { is_config config ≡ true }
         ensures tables { IfOk result (λ s. s.tables ≡ first_state (opening_of config)) }
@@ -77,7 +77,7 @@ impl State {
         })
     }
 
-    /// Spends it: each frame, each slot and each charge goes back.
+    /// Spends it: each frame and each slot goes back, and each charge is uncharged.
     pub fn close(self) {
         let State {
             config: _,
@@ -98,7 +98,7 @@ impl State {
         &self.tree
     }
 
-    /// Which groups the killer takes as one.
+    /// Which groups the OOM killer kills as one.
     pub fn flags(&self) -> &Flags
         ensures { result.now.flags ≡ self.now.tables.flags }
     {
@@ -126,28 +126,28 @@ impl State {
         self.parts.moving.len() as u32
     }
 
-    /// The daemon's marks.
+    /// The daemon's watermarks.
     pub fn watermarks(&self) -> Watermarks
         ensures { result ≡ self.now.tables.opening.watermarks }
     {
         self.config.watermarks
     }
 
-    /// Where pages enter the generation lists that are read in.
+    /// Which generation list a page enters when it is read in.
     pub fn placement(&self) -> Placement
         ensures { result ≡ self.now.tables.opening.placement }
     {
         self.config.placement
     }
 
-    /// The trace's limit, in entries.
+    /// The limit of the trace, in entries.
     pub fn limit(&self) -> usize
         ensures { result ≡ self.now.tables.opening.trace_limit }
     {
         self.config.trace as usize
     }
 
-    /// The tasks, and what their virtual pages show.
+    /// The tasks, and what their virtual pages map.
     pub fn spaces(&self) -> &Spaces
         ensures tasks { result.now.tasks ≡ self.now.tables.tasks }
         ensures page_tables { result.now.page_tables ≡ self.now.tables.page_tables }
@@ -155,7 +155,7 @@ impl State {
         &self.spaces
     }
 
-    /// The pages, to be read.
+    /// The pages, lent for reading.
     pub fn pages(&self) -> &Pages
         ensures pages { result.now.pages ≡ self.now.tables.pages }
         ensures bytes { result.now.bytes ≡ self.now.bytes }
@@ -165,13 +165,16 @@ impl State {
         &self.parts.pages
     }
 
-    /// Nothing is done: what holds of all joined parts. What the opening fixed is within its limits;
-    /// the root is there, and so is the group of each live
-    /// task and of each page; the pages that are mapped are there, live tasks map them, and no page of a
-    /// file is mapped; the transfers in flight are those of the pages in transfer; no page of a file is
-    /// there twice, and each is at home; each held page is on the list of its group and type, once, and no
-    /// other page is; each group has its lists, two to four generations of a type, and its cursor; and each
-    /// frame that a page has is one of the opening's.
+    /// Does nothing. The contract states what holds of all joined parts:
+    ///
+    /// - What the opening determined is within its limits.
+    /// - The root exists, and so do the group of each live task and the group of each page.
+    /// - The pages that are mapped exist, live tasks map them, and no page of a file is mapped.
+    /// - The transfers in flight are those of the pages in transfer.
+    /// - No page of a file exists twice, and each has its home.
+    /// - Each held page is on the list of its group and type, once, and no other page is.
+    /// - Each group has its lists, two to four generations of each type, and its cursor.
+    /// - Each frame that a page has is one of the opening's.
     pub fn is_joined(&self)
         ensures limit { self.now.tables.opening.trace_limit ≤ 1048576 }
         ensures root { is_live self.now.tables.tree 0 ≡ true }

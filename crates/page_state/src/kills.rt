@@ -1,4 +1,4 @@
-//! A kill of a group: what is counted for it, and how all of its tasks end.
+//! A kill of a group: what is counted for it, and the end of all of its tasks.
 
 ghost use Rattle.std.specs.Prelude.{◌≡◌, ℕ, ◌+◌, ◌^◌, ◌<◌, ◌==◌, ◌&&◌, ◌∷◌, [], false, true, if◌then◌else◌};
 ghost use Rattle.machine.specs.declared.record.Key.TheVariants as key;
@@ -15,9 +15,9 @@ use machine::record::{Key, Life};
 use oom::is_candidate;
 
 impl State {
-    /// Counts a kill of the group, for want of room under the limit: `oom` at the limit; `oom_kill` for
-    /// each task that lives at or under the group, at its own group; `oom_group_kill` at the group. Answers
-    /// how many tasks these are. They live on. It goes over all task numbers.
+    /// Counts a kill of the group, because there is no room under the limit: `oom` at the limit, `oom_kill`
+    /// for each live task at or under the group, at the task's own group, and `oom_group_kill` at the
+    /// group. Returns the number of these tasks. They stay alive. The call looks at all task numbers.
     pub fn count_group_kill(&mut self, limit: GroupId, group: GroupId) -> u32
         requires limit { is_live self.old.tables.tree limit.0 ≡ true }
         requires group { is_live self.old.tables.tree group.0 ≡ true }
@@ -31,8 +31,8 @@ impl State {
         tasks
     }
 
-    /// Counts `oom_kill` for each task that lives at or under the group, at its own group, and answers how
-    /// many these are.
+    /// Counts `oom_kill` for each live task at or under the group, at the task's own group. Returns the
+    /// number of these tasks.
     fn count_kills(&mut self, group: GroupId) -> u32
         requires few { AreAtMost self.old.tables (2 ^ 63 + 1) }
         ensures tasks { result ≡ killed_with self.old.tables.tree self.old.tables.tasks group.0 }
@@ -46,8 +46,8 @@ impl State {
         tasks
     }
 
-    /// Counts `oom_kill` at the task's group, if the task lives at or under this one, and answers how many
-    /// such tasks it is: one, or none.
+    /// Counts `oom_kill` at the task's group, if the task is live and at or under this group. Returns the
+    /// number of such tasks: one or zero.
     fn count_kill(&mut self, group: GroupId, task: TaskId) -> u32
         requires few { total self.old.tables.tree self.old.tables.counted 0 key.OomKill < u64.MAX }
         ensures task { result ≡ (if is_candidate self.old.tables.tree self.old.tables.tasks group.0 task.0 then 1 else 0) }
@@ -65,9 +65,9 @@ impl State {
         1
     }
 
-    /// All tasks that live at or under the group end so: their virtual pages show nothing any more, and the
-    /// pages that nothing else maps go, but for those in transfer. It goes over all task numbers. Takes no
-    /// memory.
+    /// Ends all live tasks at or under the group in this way. Their virtual pages map nothing any more. The
+    /// pages that nothing else maps are gone, except those in transfer. The call looks at all task numbers.
+    /// Allocates no memory.
     pub fn end_tasks(&mut self, group: GroupId, life: Life)
         requires { is_live_life life ≡ false }
         ensures { EndsTasks self.old self.new (is_candidate self.old.tables.tree self.old.tables.tasks group.0) life }
@@ -78,7 +78,7 @@ impl State {
         }
     }
 
-    /// The task ends so, if it lives at or under the group.
+    /// Ends the task in this way, if it is live and at or under the group.
     fn end_task_under(&mut self, group: GroupId, task: TaskId, life: Life)
         requires { is_live_life life ≡ false }
         ensures { EndsTasks self.old self.new (λ u. (u == task.0) && is_candidate self.old.tables.tree self.old.tables.tasks group.0 task.0) life }

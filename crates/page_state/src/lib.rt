@@ -1,10 +1,10 @@
-//! The parts of a machine joined: each call makes one change of the machine's tables, in all parts at
-//! once, so that between calls the parts agree.
+//! The joined parts of a machine. Each call makes one change of the machine's tables, in all parts at once, so
+//! the parts agree between calls.
 //!
-//! Below it stand the parts, each seen as the machine's table that it keeps: the groups, their limits, flags and
-//! counts, the pages with their bytes, the files that some are of, the generation lists of those in frames,
-//! the tasks with what they map, the frames and swap slots that are free, the transfers in flight, and how
-//! often events were counted.
+//! Each part keeps one of the machine's tables. The tables are the groups with their limits, flags and counts;
+//! the pages with their bytes; the files; and the generation lists of the pages in frames. There are also the
+//! tasks with what they map, the free frames and swap slots, the transfers in flight, and how often events were
+//! counted.
 #![tactic(auto)]
 
 pub use joined::State;

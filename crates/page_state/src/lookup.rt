@@ -1,4 +1,4 @@
-//! Pages that are looked for among all.
+//! Searches among all pages.
 
 ghost use Rattle.std.specs.Prelude.{◌≡◌, ◌&&◌, not, Some, IsSome};
 ghost use Rattle.std.specs.List.{list_any};
@@ -26,7 +26,7 @@ pub fn file_usage(pages: &Pages, tree: &Tree, group: GroupId) -> u64
     many
 }
 
-/// Whether the page is there, holds a page of a file, has a frame, and is of a group at or under this one.
+/// Whether the page exists, holds a page of a file, has a frame, and is of a group at or under this one.
 fn is_file_under(page: PageId, pages: &Pages, tree: &Tree, group: GroupId) -> bool
     ensures { result ≡ there_and (λ page. is_charged tree.now group.0 page && not (is_anon page.content)) (page_at pages.now.pages page.0) }
 {
@@ -49,7 +49,7 @@ pub fn is_any_under(queue: &[PageId], pages: &Pages, tree: &Tree, target: GroupI
     false
 }
 
-/// Whether the page is there, and of a group at or under the target.
+/// Whether the page exists, and is of a group at or under the target.
 fn is_under(page: PageId, pages: &Pages, tree: &Tree, target: GroupId) -> bool
     ensures { result ≡ there_and (λ page. under tree.now target.0 page.group) (page_at pages.now.pages page.0) }
 {

@@ -1,4 +1,4 @@
-//! Marks that come by frame.
+//! Marks by frame.
 
 ghost use Rattle.std.specs.Prelude.{◌≡◌, ◌<◌};
 ghost use Rattle.machine.specs.Lists.{MarksThose, MergesMarks};
@@ -7,8 +7,8 @@ ghost use Rattle.page_state.specs.Merging.{is_at_place};
 use held_pages::HeldPages;
 use pages::Pages;
 
-/// The pages that are held in the frames of these bits are marked as accessed: bit b is that of frame
-/// `64 * word + b`. Takes no memory.
+/// Marks the pages that are held in the frames of these bits as accessed: bit b belongs to frame
+/// `64 * word + b`. Allocates no memory.
 pub(crate) fn merge_marks(pages: &Pages, held: &mut HeldPages, word: u32, bits: u64)
     requires { held.old.numbers ≡ pages.now.numbers }
     ensures merged { MergesMarks pages.now.pages word bits held.old.lists held.new.lists }
@@ -22,7 +22,7 @@ pub(crate) fn merge_marks(pages: &Pages, held: &mut HeldPages, word: u32, bits: 
     }
 }
 
-/// The same of the frame at one place of the word alone.
+/// The same, for only the frame at one place of the word.
 fn merge_mark(pages: &Pages, held: &mut HeldPages, word: u32, bits: u64, place: u32)
     requires place { place < 64 }
     requires numbers { held.old.numbers ≡ pages.now.numbers }

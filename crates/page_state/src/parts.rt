@@ -1,4 +1,4 @@
-//! The parts that a page owns something of, and how they change together.
+//! The parts that pages own something of, and how they change together.
 
 ghost use Rattle.std.specs.Prelude.{◌≡◌, ◌≢◌, ℕ, ◌+◌, ◌<◌, ◌≤◌, ◌==◌, ◌∷◌, [], true, false, None, Some, IsSome, IfSome, IfOk, OnOk, length, replicate, option_map, slice_index, if◌then◌else◌};
 ghost use Rattle.machine.specs.Slots.{Changes};
@@ -33,24 +33,24 @@ use page_counter::{Charge, Counters};
 use pages::{End, InTicket, OutTicket, Pages, WayOut};
 use std::alloc::{AllocError, Global};
 
-/// The parts that a page owns something of: the pages; the frames that no page stands in; the swap slots that no
-/// page stands on; for each group its settings, and how many pages are charged to it or below it; the lists of the
-/// pages that are held; and the pages in transfer. It must be spent, by [`Parts::close`].
+/// The parts that pages own something of: the pages, the frames and the swap slots without a page, the lists of
+/// the held pages, and the pages in transfer. For each group they also have its settings, and how many pages are
+/// charged to it or below it. [`Parts::close`] must spend it.
 #[must_use]
 pub struct Parts {
     pub pages: Pages,
     pub pool: Pool,
     pub slots: Slots,
     pub counters: Counters,
-    /// The pages in frames and in no transfer, in their lists.
+    /// The pages in frames that are not in transfer, in their lists.
     pub held: HeldPages,
     /// The pages in transfer.
     pub moving: Queue,
 }
 
 impl Parts {
-    /// No page, all frames and all swap slots free, and the root alone, without a limit. There are as many
-    /// page numbers as frames and slots. The files are at home behind the slots.
+    /// No page, all frames and all swap slots free, and only the root, without a limit. The number of page numbers
+    /// is that of frames plus slots. The files' home blocks follow the slots.
     pub fn open(alloc: Global, frames: u32, swap: u32, files: Files) -> Result<Parts, AllocError>
         requires numbered { frames + swap ≤ u32.MAX }
         requires homes { files.first ≡ swap }
@@ -70,7 +70,7 @@ impl Parts {
         let held = HeldPages::open(alloc, frames + swap)?;
         let moving = Queue::open(alloc, frames)?;
         let slots = Slots::open(alloc, swap)?;
-        // Each page that is written out has a frame, and a block of its own that it is written to.
+        // Each page that is written out has a frame, and a block of its own to write to.
         files.are_numbered();
         let homes = files.pages();
         let spares = frames.min(swap + homes);
@@ -93,7 +93,7 @@ impl Parts {
         })
     }
 
-    /// Asks for the memory of one group more.
+    /// Reserves the memory for another group.
     pub fn reserve_group(&mut self) -> Result<(), AllocError>
         requires { PartsAgree self.old }
         ensures agree { PartsAgree self.new }
@@ -105,7 +105,7 @@ impl Parts {
         self.pages.reserve_group()
     }
 
-    /// A group below another. Its memory was asked for by [`Parts::reserve_group`].
+    /// Adds a group below another. [`Parts::reserve_group`] reserved its memory.
     pub fn add_group(&mut self, group: GroupId, parent: GroupId)
         requires agree { PartsAgree self.old }
         requires room { HasGroupRoom self.old }
@@ -119,9 +119,9 @@ impl Parts {
         self.pages.add_group();
     }
 
-    /// A page of the group, with the bytes of another that is in a frame, or zeros, but for one byte. There is
-    /// room for it. Takes no memory: where a frame is free, so is a number, since each page has a frame or a
-    /// swap slot.
+    /// Makes a page of the group, with the bytes of another that is in a frame, or zeros, except for one byte.
+    /// There is room for it. Allocates no memory. If a frame is free, so is a page number, since each page has a
+    /// frame or a swap slot.
     pub fn hold(&mut self, from: Option<PageId>, group: GroupId, offset: usize, byte: u8) -> PageId
         requires agree { PartsAgree self.old }
         requires held { IfSome from (λ page. is_held_in self.old.pages.pages page.0 ≡ true) }
@@ -141,9 +141,9 @@ impl Parts {
         page
     }
 
-    /// The page, which is in a frame, leaves it: it begins to be written out, memory to a swap block, of which
-    /// one is free then, a page of a file that was written to to its home block; or, where there is no
-    /// ticket, it is a page of a file as its home block has it, and is gone. Takes no memory.
+    /// Begins to write out the page, which is in a frame. Memory is written to a swap block, one of which is free
+    /// then. A dirty page of a file is written to its home block. If no ticket is returned, the page was a clean
+    /// page of a file, and is gone. Allocates no memory.
     pub fn take_out(&mut self, page: PageId) -> Option<OutTicket>
         requires agree { PartsAgree self.old }
         requires held { is_held_in self.old.pages.pages page.0 ≡ true }
@@ -160,8 +160,7 @@ impl Parts {
         }
     }
 
-    /// Begins to write out a page that is in a frame: memory, where a swap block is free, or a page of a file that
-    /// was written to.
+    /// Begins to write out a page that is in a frame: memory, if a swap block is free, or a dirty page of a file.
     fn start_out(&mut self, page: PageId) -> OutTicket
         requires agree { PartsAgree self.old }
         requires held { (label : Label) × (f : ℕ) × HasResidence self.old.pages.pages page.0 label (residence.Held f) × (way_of label.content label.dirty ≢ WayOut.Dropped) }
@@ -181,9 +180,9 @@ impl Parts {
         ticket
     }
 
-    /// The read-in of the page has ended so: it is in its frame, with the bytes that the ticket read, and
-    /// in the generation that the placement says; or it is on its block, and its charge is taken back.
-    /// Hands out the ticket's bytes. Takes no memory.
+    /// Ends the read-in of the page in this way. If it ends in its frame, the page has the bytes that the ticket
+    /// read, and enters the generation that the placement chooses. If it ends on its block, the page is uncharged.
+    /// Returns the ticket's bytes. Allocates no memory.
     pub fn settle_in(
         &mut self,
         page: PageId,
@@ -223,8 +222,8 @@ impl Parts {
         PageBytes::new(buffer)
     }
 
-    /// The write-out of the page has ended so: it is on its block, and its charge is taken back; or it is
-    /// in its frame, as it was, and in the youngest generation. Takes no memory.
+    /// Ends the write-out of the page in this way. If it ends on its block, the page is uncharged. If it ends in
+    /// its frame, the page is unchanged, and enters the youngest generation. Allocates no memory.
     pub fn settle_out(&mut self, page: PageId, ticket: OutTicket, end: End, placement: Placement)
         requires agree { PartsAgree self.old }
         requires stands { (label : Label) × (f b : ℕ) × HasResidence self.old.pages.pages page.0 label (residence.Going f b ticket.number) }
@@ -256,8 +255,8 @@ impl Parts {
         );
     }
 
-    /// The page is gone, which is in no transfer: its frame and its charge, or its slot, go back. Takes
-    /// no memory.
+    /// Removes the page, which is not in transfer. Its frame and its charge, or its slot, go back. Allocates no
+    /// memory.
     pub fn drop_page(&mut self, page: PageId)
         requires agree { PartsAgree self.old }
         requires there { IsSome (page_at self.old.pages.pages page.0) }
@@ -272,7 +271,7 @@ impl Parts {
         self.held.unlist(page);
     }
 
-    /// Spends them: each frame and each slot goes back, and each charge is taken back.
+    /// Spends them: each frame and each slot goes back, and each charge is uncharged.
     pub fn close(self)
         requires { PartsAgree self }
     {
@@ -292,8 +291,8 @@ impl Parts {
     }
 }
 
-/// A new page in the frame, with the bytes of another that is in a frame, or zeros, but for one byte. A number
-/// is free for it.
+/// Makes a page in the frame, with the bytes of another that is in a frame, or zeros, except for one byte. A
+/// number is free for it.
 fn make_page(
     pages: &mut Pages,
     frame: Frame,

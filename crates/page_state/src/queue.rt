@@ -9,7 +9,7 @@ use machine::id::PageId;
 use std::alloc::{AllocError, Global};
 use std::marker::Model;
 
-/// Pages in the order in which they came. Its memory is that of its opening.
+/// Pages in the order in which they were added. Its memory is allocated when it is opened.
 #[derive(Drop)]
 pub struct Queue {
     order: Vec<PageId>,
@@ -25,7 +25,7 @@ impl Model for Queue {
 }
 
 impl Queue {
-    /// No page, and memory for so many.
+    /// No page, and memory for this many.
     pub fn open(alloc: Global, pages: u32) -> Result<Queue, AllocError>
         ensures numbers { IfOk result (λ q. q.numbers ≡ []) }
         ensures room { IfOk result (λ q. q.room ≡ pages) }
@@ -34,21 +34,21 @@ impl Queue {
         Ok(Queue { order })
     }
 
-    /// How many pages there are in it.
+    /// How many pages the queue has.
     pub fn len(&self) -> usize
         ensures { result ≡ length self.now.numbers }
     {
         self.order.len()
     }
 
-    /// The pages, the first of the queue first.
+    /// The pages, from the first to the last.
     pub fn as_slice(&self) -> &[PageId]
         ensures { numbers_of result.now ≡ self.now.numbers }
     {
         self.order.as_slice()
     }
 
-    /// The page becomes the last of the queue. Takes no memory.
+    /// Adds the page to the end of the queue. Allocates no memory.
     pub fn push(&mut self, page: PageId)
         requires room { length self.old.numbers < self.old.room }
         ensures last { self.new.numbers ≡ self.old.numbers ++ page.0 ∷ [] }
@@ -59,7 +59,7 @@ impl Queue {
         self.order.push_reserved(page);
     }
 
-    /// The page is no longer in the queue, and all others stay in their order.
+    /// Removes the page from the queue. All others keep their order.
     pub fn remove(&mut self, page: PageId)
         ensures others { self.new.numbers ≡ filter (λ n. not (n == page.0)) self.old.numbers }
         ensures counts { (n : ℕ) → times self.new.numbers n + (if page.0 == n then times self.old.numbers page.0 else 0) ≡ times self.old.numbers n }

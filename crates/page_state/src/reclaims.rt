@@ -1,4 +1,4 @@
-//! What a reclaim takes, and how it begins to leave.
+//! What a reclaim evicts, and how the page begins to leave.
 
 ghost use Rattle.std.specs.Prelude.{◌≡◌, Some, true, not, is_some, IfSome};
 ghost use Rattle.machine.specs.Tree.{is_live};
@@ -23,8 +23,8 @@ impl State {
         self.config.recursive
     }
 
-    /// The group that gives the next page to a reclaim of the target. There is one exactly where a page may
-    /// be taken, and its low is passed over exactly where no page is open.
+    /// The group that a reclaim of the target evicts the next page from. There is one exactly if a page is
+    /// reclaimable. The reclaim overrides the group's low exactly if no page is open.
     pub fn next_group(&self, target: GroupId) -> Option<Served>
         requires { is_live self.now.tables.tree target.0 ≡ true }
         ensures next { IfSome result (λ s. served self.now.tables self.now.order target.0 ≡ Some s.group.0) }
@@ -50,7 +50,7 @@ impl State {
         self.cursors.next_group(scan)
     }
 
-    /// Whether a page of a group at or under the target is in transfer, and may come free.
+    /// Whether a page of a group at or under the target is in transfer, and may become free.
     pub fn has_transfer(&self, target: GroupId) -> bool
         ensures { result ≡ has_transfer self.now.tables target.0 }
     {
@@ -62,10 +62,9 @@ impl State {
         )
     }
 
-    /// Of the group that is served the page that is evicted next leaves its frame, and the target's cursor
-    /// names the group: the page begins to be written out under the ticket; or, where there is none, it is a
-    /// page of a file as its home block has it, and is dropped (kernel: shrink_folio_list). Takes no
-    /// memory.
+    /// Evicts the next page of the group that is served. The target's cursor moves to the group. The page
+    /// begins to be written out under the ticket. If there is no ticket, it was a clean page of a file, and
+    /// is dropped (kernel: shrink_folio_list). Allocates no memory.
     pub fn take_out(&mut self, target: GroupId, group: GroupId) -> Option<OutTicket>
         requires live { is_live self.old.tables.tree target.0 ≡ true }
         requires next { served self.old.tables self.old.order target.0 ≡ Some group.0 }

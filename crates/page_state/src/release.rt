@@ -1,4 +1,4 @@
-//! What pages owned is given back.
+//! Giving back what pages owned.
 
 ghost use Rattle.std.specs.Prelude.{◌≡◌, ℕ, ◌+◌, ◌<◌, true, false, length, vec_len};
 ghost use Rattle.counts.specs.Numbers.{times};
@@ -12,7 +12,7 @@ use frames::Pool;
 use page_counter::Counters;
 use pages::{Backing, OwnedPage, Place};
 
-/// Gives back what a page owned that is gone.
+/// Gives back what a removed page owned.
 pub fn release(owned: OwnedPage, counters: &mut Counters, pool: &mut Pool, slots: &mut Slots)
     requires { Leaves counters.old pool.old slots.old (page_of owned) }
     ensures releases { Releases (page_of owned) counters.old pool.old slots.old counters.new pool.new slots.new }
@@ -40,7 +40,7 @@ pub fn release(owned: OwnedPage, counters: &mut Counters, pool: &mut Pool, slots
     }
 }
 
-/// Gives back the slot of memory that was in transfer. A home block is nobody's.
+/// Gives back the slot of memory that was in transfer. A home block has no owner.
 fn give_backing(backing: Backing, slots: &mut Slots)
     requires out { (b : ℕ) → is_slot backing b ≡ true → times slots.old.free b ≡ 0 }
     requires in_range { (b : ℕ) → is_slot backing b ≡ true → b < slots.old.blocks }
@@ -54,7 +54,7 @@ fn give_backing(backing: Backing, slots: &mut Slots)
     }
 }
 
-/// Takes the last place away, and gives back what its page owned. False where there is no place.
+/// Removes the last place, and gives back what its page owned. False if there is no place.
 pub fn release_last(
     owned: &mut Vec<Option<OwnedPage>>,
     counters: &mut Counters,

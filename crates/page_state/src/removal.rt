@@ -1,4 +1,4 @@
-//! How the pages of a group that goes become its parent's.
+//! How the pages of a removed group become its parent's.
 
 ghost use Rattle.std.specs.Prelude.{◌≡◌, ℕ, Some, true, length, option_map};
 ghost use Rattle.machine.specs.Tree.{node_at, is_live};
@@ -12,8 +12,9 @@ use machine::id::GroupId;
 use page_counter::Counters;
 use pages::Pages;
 
-/// The pages of the group are those of its parent from now on, and so are their charges (kernel: the charges of
-/// a memory cgroup that goes offline are its parent's). Takes no memory, and as long as the group has pages.
+/// Moves the pages of the group, and their charges, to its parent (kernel: the charges of a memory cgroup that
+/// goes offline become its parent's). Allocates no memory. The time grows with the number of pages of the
+/// group.
 pub fn reparent(pages: &mut Pages, counters: &mut Counters, group: GroupId, parent: GroupId)
     requires below { (node_at counters.old.tree group.0).parent ≡ Some parent.0 }
     requires live { is_live counters.old.tree group.0 ≡ true }

@@ -15,7 +15,7 @@ use pages::WayOut;
 /// Why a page cannot be charged to a group and brought into a frame.
 #[derive(Clone, Copy)]
 pub enum NoRoom {
-    /// One page more would pass a max: this is the lowest group whose max it is.
+    /// Another page would exceed a max: this is the lowest group with such a max.
     Over(GroupId),
     /// No frame is free.
     NoFrame,
@@ -39,7 +39,7 @@ pub fn take_room(counters: &mut Counters, pool: &mut Pool, group: GroupId) -> (F
     (frame, charge)
 }
 
-/// Gives a frame back, and takes the charge back.
+/// Gives a frame back, and uncharges its page.
 pub fn give_room(frame: Frame, charge: Charge, counters: &mut Counters, pool: &mut Pool)
     requires out { times pool.old.free frame.number ≡ 0 }
     requires in_range { frame.number < pool.old.frames }
@@ -51,8 +51,8 @@ pub fn give_room(frame: Frame, charge: Charge, counters: &mut Counters, pool: &m
     counters.uncharge(charge);
 }
 
-/// The slot by which a page that has to be written leaves its frame: memory by a free one, of which there is one
-/// then, and a page of a file by none.
+/// The slot for a page that must be written to leave its frame. Memory takes a free slot, of which there is one
+/// then. A page of a file takes none.
 pub fn slot_for(way: WayOut, slots: &mut Slots) -> Option<Slot>
     requires written { way ≢ WayOut.Dropped }
     requires free { way ≡ WayOut.ToSwap → 0 < length slots.old.free }
@@ -65,7 +65,7 @@ pub fn slot_for(way: WayOut, slots: &mut Slots) -> Option<Slot>
     }
 }
 
-/// Takes a spare; there is one.
+/// Takes a spare, of which there is one.
 pub fn take_spare(pool: &mut Pool) -> Spare
     requires { 0 < pool.old.spares }
     ensures { pool.old ≡ record pool.new { spares = pool.new.spares + 1 } }

@@ -1,4 +1,4 @@
-//! How a transfer's end changes what pages own, and the lists of pages.
+//! What the end of a transfer changes in what pages own, and in the lists of pages.
 
 ghost use Rattle.std.specs.Prelude.{◌≡◌, ◌≢◌, ℕ, ◌<◌, false, length, slice_index};
 ghost use Rattle.machine.specs.Generations.{is_listed_in};
@@ -22,7 +22,7 @@ use machine::record::{Direction, Kind};
 use page_counter::Counters;
 use pages::{Carries, End, Freed, InTicket, Pages, Settled, Ticket};
 
-/// The page has the bytes that the ticket read, where its read-in has ended in its frame.
+/// Gives the page the bytes that the ticket read, if its read-in ended in its frame.
 pub fn fill(pages: &mut Pages, page: PageId, ticket: &InTicket, end: End)
     requires { (label : Label) × (f b : ℕ) × HasResidence pages.old.pages page.0 label (residence.Coming f b ticket.now.number) }
     ensures filled { end ≡ End.InFrame → (o : ℕ) → byte_in pages.new.bytes page.0 o ≡ slice_index ticket.now.bytes o }
@@ -35,8 +35,8 @@ pub fn fill(pages: &mut Pages, page: PageId, ticket: &InTicket, end: End)
     }
 }
 
-/// The transfer of the page has ended so, and what the page owns no more goes back. Hands out the page's group and
-/// type, and what the ticket carried.
+/// Ends the transfer of the page in this way, and gives back what the page no longer owns. Returns the page's
+/// group and type, and what the ticket carried.
 pub fn end_transfer<B: Carries>(
     page: PageId,
     ticket: Ticket<B>,
@@ -74,7 +74,7 @@ pub fn end_transfer<B: Carries>(
     told
 }
 
-/// The page is in transfer in this direction no more, and is listed where it is in its frame.
+/// The page is no longer in transfer in this direction. If it is in its frame, it is added to its list.
 pub fn relist(
     held: &mut HeldPages,
     moving: &mut Queue,

@@ -12,7 +12,7 @@ use machine::record::Life;
 use std::alloc::AllocError;
 
 impl State {
-    /// A task of the group begins. `AllocError` where memory for its page table is refused, and then nothing
+    /// Starts a task of the group. `AllocError` if memory for its page table runs out, and then nothing
     /// changes.
     pub fn spawn(&mut self, task: TaskId, group: GroupId) -> Result<(), AllocError>
         requires number { number_refusal self.old.tables.tasks task.0 ≡ None }
@@ -24,8 +24,8 @@ impl State {
         Ok(())
     }
 
-    /// A task begins in the group of a live one, and shows what that one shows. `AllocError` where memory for
-    /// its page table is refused, and then nothing changes.
+    /// Starts a task in the group of a live one. It maps the same pages. `AllocError` if memory for its page
+    /// table runs out, and then nothing changes.
     pub fn fork(&mut self, parent: TaskId, child: TaskId) -> Result<(), AllocError>
         requires alive { lives self.old.tables.tasks parent.0 ≡ true }
         requires number { number_refusal self.old.tables.tasks child.0 ≡ None }
@@ -37,7 +37,7 @@ impl State {
         Ok(())
     }
 
-    /// A live task is of another group from now on. Its pages stay charged where they are. Takes no memory.
+    /// Moves a live task to another group. The charges of its pages stay where they are. Allocates no memory.
     pub fn attach(&mut self, task: TaskId, group: GroupId)
         requires alive { lives self.old.tables.tasks task.0 ≡ true }
         requires live { is_live self.old.tables.tree group.0 ≡ true }
@@ -46,8 +46,8 @@ impl State {
         self.spaces.attach(task, group);
     }
 
-    /// A live task ends so: its virtual pages show nothing any more, and the pages that nothing else maps go,
-    /// but for those in transfer. Takes no memory.
+    /// Ends a live task in this way. Its virtual pages map nothing any more, and the pages that nothing else
+    /// maps are gone, except those in transfer. Allocates no memory.
     pub fn end_task(&mut self, task: TaskId, life: Life)
         requires alive { lives self.old.tables.tasks task.0 ≡ true }
         requires ended { is_live_life life ≡ false }

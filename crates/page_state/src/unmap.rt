@@ -1,5 +1,5 @@
-//! Virtual pages that show nothing any more, and the pages that go since nothing maps them any more, with
-//! what they own. A page in transfer stays until its end.
+//! Unmapping virtual pages. A page that nothing maps any more is gone, with what it owned. A page in
+//! transfer stays until the transfer ends.
 
 ghost use Rattle.std.specs.Prelude.{◌≡◌, ◌&&◌, not};
 ghost use Rattle.machine.specs.Slots.{there_and};
@@ -18,8 +18,8 @@ use pages::{Pages, Residence};
 use spaces::Spaces;
 
 impl State {
-    /// A virtual page of a task shows nothing from now on, and the page that it showed goes where nothing
-    /// else maps it (kernel: zap_pte_range). Takes no memory.
+    /// Unmaps a virtual page of a task. The page that it mapped is gone if nothing else maps it (kernel:
+    /// zap_pte_range). Allocates no memory.
     pub fn unmap(&mut self, task: TaskId, at: u32)
         ensures { Unmaps self.old self.new task.0 at }
     {
@@ -28,7 +28,7 @@ impl State {
         }
     }
 
-    /// No virtual page of the task shows anything from now on. Takes no memory.
+    /// Unmaps all virtual pages of the task. Allocates no memory.
     pub(crate) fn unmap_all(&mut self, task: TaskId)
         ensures { UnmapsAll self.old self.new task.0 }
     {
@@ -39,7 +39,8 @@ impl State {
     }
 }
 
-/// Lets the page go where it is memory that nothing maps, unless it is in transfer or gone. Takes no memory.
+/// Removes the page if it is memory that nothing maps, unless it is in transfer or gone. Allocates no
+/// memory.
 pub fn drop_unmapped(parts: &mut Parts, spaces: &Spaces, page: PageId)
     requires { PartsAgree parts.old }
     ensures agree { PartsAgree parts.new }
@@ -50,7 +51,7 @@ pub fn drop_unmapped(parts: &mut Parts, spaces: &Spaces, page: PageId)
     }
 }
 
-/// Whether the page is there, is memory, and is in no transfer.
+/// Whether the page exists, is memory, and is not in transfer.
 fn is_settled_memory(pages: &Pages, page: PageId) -> bool
     ensures { result ≡ there_and (λ page. is_anon page.content && not (is_in_transfer page)) (page_at pages.now.pages page.0) }
 {

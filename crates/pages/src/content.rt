@@ -1,4 +1,4 @@
-//! What a page holds, as it is asked for.
+//! The content of a page, and its properties.
 
 ghost use Rattle.std.specs.Prelude.{◌≡◌, Bool, true};
 ghost use Rattle.machine.specs.Lists.{kind_at};
@@ -12,7 +12,7 @@ use crate::way::WayOut;
 use machine::record::Kind;
 
 impl Content {
-    /// Of which type a page is that holds it.
+    /// The type of a page with this content.
     pub(crate) fn kind(self) -> Kind
         ensures { result ≡ kind_at (content_of self) }
     {
@@ -22,7 +22,7 @@ impl Content {
         }
     }
 
-    /// The page of a file that it is, if it is one.
+    /// The page of a file, if the content is one.
     pub(crate) fn file(self) -> Option<FilePage>
         ensures { result ≡ file_at (content_of self) }
     {
@@ -32,7 +32,7 @@ impl Content {
         }
     }
 
-    /// How a page in a frame that holds it would leave that.
+    /// How a page with this content would leave its frame.
     pub(crate) fn way_out(self) -> WayOut
         ensures { result ≡ pages.way_of (content_of self) (is_dirty self) }
     {
@@ -48,7 +48,7 @@ impl Content {
         }
     }
 
-    /// It was written to: a page of a file is dirty from now on (kernel: folio_mark_dirty).
+    /// Notes a write: a page of a file is dirty from now on (kernel: folio_mark_dirty).
     pub(crate) fn make_dirty(&mut self)
         ensures memory { self.old ≡ Memory → self.new ≡ self.old }
         ensures file { (at : FilePage_of) (dirty : Bool) → self.old ≡ OfFile at dirty → self.new ≡ OfFile at true }

@@ -3,11 +3,11 @@
 use machine::id::PageId;
 use machine::record::Direction;
 
-/// A transfer in flight, by its ticket.
+/// A transfer in flight, identified by its ticket.
 #[derive(Clone, Copy)]
 pub struct Flight {
     /// The page that is in transfer.
     pub page: PageId,
-    /// Which way it goes.
+    /// The direction of the transfer.
     pub direction: Direction,
 }

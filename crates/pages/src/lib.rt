@@ -1,13 +1,12 @@
-//! The pages that there are, by their numbers, with what each owns: a frame and a charge, a swap slot, or
-//! all three while it is in transfer. And the tickets of the transfers in flight.
+//! The existing pages, by their numbers, with what each owns: a frame and a charge, a swap slot, or all three while it
+//! is in transfer. The crate also has the tickets of the transfers in flight.
 //!
-//! Each page is on a list of its group's pages, so that the pages of a group are found without a look
-//! at any other.
+//! Each page is on a list of its group's pages. Finding the pages of a group takes no look at any other page.
 //!
-//! A page holds memory of tasks, or a page of a file, which is found by the file and its place there. Its
-//! number is free again once the page is gone, and the number of a ticket once its transfer has ended.
+//! A page holds memory of tasks, or a page of a file. The file and the place in it identify that page. A page's number
+//! is free again once the page is gone, and a ticket's number once its transfer has ended.
 //!
-//! Which page is held in a frame is found by one look, at what stands at the frame's number.
+//! Finding the page that is held in a frame takes one look, at the entry with the frame's number.
 #![tactic(auto)]
 
 ghost use Rattle.std.specs.Prelude.{◌≡◌, ◌≢◌, ℕ, ◌+◌, ◌<◌, ◌≤◌, ◌==◌, ◌&&◌, [], Some, None, OnOk, IsOk, IsSome, IfOk, IfSome, slice_index, true, false, map, option_map, if◌then◌else◌};
@@ -59,14 +58,14 @@ use table::{
     take_at, told_at, unlist, write_at,
 };
 
-// Each group has a list, and lists are counted in 31 bits.
+// Each group has a list, and 31 bits count the lists.
 const MAX_GROUPS: u32 = (1 << 31) - 1;
 
-/// The pages by their numbers, the transfers in flight by theirs, and the pages of each group. It must be
-/// spent, by [`Pages::into_owned`].
+/// The pages by their numbers, the transfers in flight by theirs, and the pages of each group. [`Pages::into_owned`]
+/// must spend it.
 #[must_use]
 pub struct Pages {
-    // The numbers that pages have, and those that are free.
+    // The numbers of pages, and the free numbers.
     numbers: Slab<()>,
     // What each page owns, by its number.
     owned: Vec<Option<OwnedPage>>,
@@ -74,10 +73,10 @@ pub struct Pages {
     flights: Slab<Flight>,
     // The pages of each group, by page number. A list's number is its group's.
     members: Rings,
-    // The files, and by home block, from the first on, the page that holds the page at home there.
+    // The files. Also, by home block from the first on, the page that holds the page with this home.
     files: Files,
     cache: Vec<Option<PageId>>,
-    // By frame number the page that has the frame, if one has; where none has, it may name any.
+    // By frame number: the page that has the frame. If none has it, the entry may name any page.
     by_frame: Vec<Option<PageId>>,
 }
 
@@ -95,9 +94,9 @@ impl Model for Pages {
 }
 
 impl Pages {
-    /// No page, so many page numbers, the root as the only group, memory for so many transfers in flight at
-    /// once, the frames of the numbers below so many, and the files. `AllocError` where there is no memory,
-    /// or where there are 2^31 page numbers or more.
+    /// No page, this many page numbers, the root as the only group, and the files. There is memory for this many
+    /// transfers in flight at once, and for this many frame numbers from 0 on. `AllocError` if there is no memory, or
+    /// if there are 2^31 page numbers or more.
     pub fn new(
         alloc: Global,
         numbers: u32,
@@ -138,15 +137,15 @@ impl Pages {
         &self.files
     }
 
-    /// How many page numbers there are. Each page has one that is below this.
+    /// How many page numbers there are. Each page's number is below this.
     pub fn numbers(&self) -> u32
         ensures { result ≡ self.now.numbers }
     {
         self.numbers.capacity() as u32
     }
 
-    /// Asks for the memory of one group more. `AllocError` where there is none, or where there are 2^31 - 1
-    /// groups; the pages are the same either way.
+    /// Reserves the memory for another group. `AllocError` if memory runs out, or if there are 2^31 - 1 groups. The
+    /// pages do not change in either case.
     pub fn reserve_group(&mut self) -> Result<(), AllocError>
         ensures room { OnOk result (0 < self.new.room) }
         ensures same { self.new ≡ record self.old { room = self.new.room } }
@@ -157,7 +156,7 @@ impl Pages {
         self.members.reserve(1)
     }
 
-    /// A group more, with no page. Its memory was asked for by [`Pages::reserve_group`].
+    /// Adds a group without pages. [`Pages::reserve_group`] reserved its memory.
     pub fn add_group(&mut self)
         requires { 0 < self.old.room }
         ensures { self.new ≡ record self.old { groups = self.old.groups + 1; room = self.new.room } }
@@ -165,7 +164,7 @@ impl Pages {
         self.members.add(1);
     }
 
-    /// A new page in the frame: zeros, but for one byte. A number is free for it. Takes no memory.
+    /// Makes a page in the frame, with zeros except for one byte. A number is free for it. Allocates no memory.
     pub fn hold(&mut self, mut frame: Frame, charge: Charge, offset: usize, byte: u8) -> PageId
         requires room { pages_there self.old.pages < self.old.numbers }
         requires group { charge < self.old.groups }
@@ -183,8 +182,8 @@ impl Pages {
         self.insert(frame, charge)
     }
 
-    /// A new page in the frame: the bytes of a page that is in a frame, but for one byte (kernel:
-    /// `wp_page_copy`). A number is free for it. Takes no memory.
+    /// Makes a page in the frame, with the bytes of a page that is in a frame except for one byte (kernel:
+    /// `wp_page_copy`). A number is free for it. Allocates no memory.
     pub fn copy(
         &mut self,
         mut frame: Frame,
@@ -210,7 +209,7 @@ impl Pages {
         self.insert(frame, charge)
     }
 
-    /// A new page in the frame, of the bytes that are in it. A number is free for it. Takes no memory.
+    /// Makes a page in the frame, with the bytes that the frame has. A number is free for it. Allocates no memory.
     fn insert(&mut self, frame: Frame, charge: Charge) -> PageId
         requires room { pages_there self.old.pages < self.old.numbers }
         requires group { charge < self.old.groups }
@@ -234,7 +233,7 @@ impl Pages {
         page
     }
 
-    /// The group that the page belongs to, if the page is there.
+    /// The group that the page belongs to, if the page exists.
     pub fn group(&self, page: PageId) -> Option<GroupId>
         ensures group { option_map (λ g. g.0) result ≡ option_map (λ page. page.group) (page_at self.now.pages page.0) }
     {
@@ -244,7 +243,7 @@ impl Pages {
         }
     }
 
-    /// Where the page is, if it is there.
+    /// Where the page is, if it exists.
     pub fn residence(&self, page: PageId) -> Option<Residence>
         ensures residence { result ≡ option_map (λ page. residence_of page.residence) (page_at self.now.pages page.0) }
     {
@@ -254,7 +253,7 @@ impl Pages {
         }
     }
 
-    /// Of which type the page is, if it is there.
+    /// The type of the page, if it exists.
     pub fn kind(&self, page: PageId) -> Option<Kind>
         ensures { result ≡ option_map (λ page. kind_at page.content) (page_at self.now.pages page.0) }
     {
@@ -264,8 +263,7 @@ impl Pages {
         }
     }
 
-    /// The page that holds this page of the file, which has it, if there is one (kernel:
-    /// filemap_get_folio).
+    /// The page that holds this page of the file, if there is one (kernel: filemap_get_folio). The file has this page.
     pub fn cached(&self, file: u32, page: u32) -> Option<PageId>
         requires { page < slice_index self.now.files.sizes file }
         ensures { option_map (λ page. page.0) result ≡ file_page self.now.pages file page }
@@ -273,8 +271,8 @@ impl Pages {
         self.cache[home_place(&self.files, file, page)]
     }
 
-    /// The page that is held in the frame of this number, if one is (kernel: pfn_folio). A page in transfer
-    /// is not, and no other page is held there.
+    /// The page that is held in the frame with this number, if there is one (kernel: pfn_folio). A page in transfer is
+    /// not held, and no other page is held in its frame.
     pub fn holder(&self, frame: usize) -> Option<PageId>
         ensures holder { option_map (λ page. page.0) result ≡ frame_holder self.now.pages frame }
         ensures alone { (p : ℕ) → is_number (option_map (λ page. page.0) result) p ≡ there_and (is_held_frame frame) (page_at self.now.pages p) }
@@ -311,7 +309,7 @@ impl Pages {
         }
     }
 
-    /// A page of the group. `None` where it has none.
+    /// A page of the group. `None` if it has none.
     pub fn first_of(&self, group: GroupId) -> Option<PageId>
         requires { group.0 < self.now.groups }
         ensures some { IfSome result (λ page. (label : Label) × (r : PageResidence) × HasResidence self.now.pages page.0 label r × (label.group ≡ group.0)) }
@@ -345,9 +343,9 @@ impl Pages {
         write_at(&mut self.owned[page.0 as usize], offset, byte);
     }
 
-    /// What the source names is from now on being read from its block into the frame: memory from its slot; or a
-    /// page of a file from its home block, under a page number that is free for it. Whoever has the ticket
-    /// reads the block. Takes no memory: the buffer is the caller's.
+    /// Begins to read what the source names from its block into the frame. Memory is read from its slot. A page of a
+    /// file is read from its home block, under a page number that is free for it. The owner of the ticket reads the
+    /// block. Allocates no memory: the buffer is the caller's.
     pub fn start_in(
         &mut self,
         from: Source,
@@ -438,9 +436,8 @@ impl Pages {
         (page, ticket)
     }
 
-    /// The page, which is in a frame, is from now on being written out: memory to the slot, a page of a file that
-    /// was written to to its home block, and by no slot. The ticket has a copy of its bytes in the spare.
-    /// Takes no memory.
+    /// Begins to write out the page, which is in a frame. Memory is written to the slot. A dirty page of a file is
+    /// written to its home block, without a slot. The ticket has a copy of its bytes in the spare. Allocates no memory.
     pub fn start_out(&mut self, page: PageId, slot: Option<Slot>, mut spare: Spare) -> OutTicket
         requires held { (label : Label) × (f : ℕ) × HasResidence self.old.pages page.0 label (Held f) × LeavesBy label.content label.dirty slot }
         requires room { 0 < self.old.tickets }
@@ -463,7 +460,7 @@ impl Pages {
         OutTicket::new(ticket, block, spare)
     }
 
-    /// The transfer of a ticket's number, if it is in flight.
+    /// The transfer with this ticket's number, if it is in flight.
     pub fn flight(&self, ticket: TicketId) -> Option<Flight>
         ensures flight { result ≡ at self.now.flights ticket.0 }
         ensures moves { IfSome result (λ flight. IsInTransfer self.now.pages ticket.0 flight) }
@@ -472,7 +469,7 @@ impl Pages {
         self.flights.get(ticket.0 as usize).copied()
     }
 
-    /// The page that is being read in under the ticket has the bytes that the ticket read. Takes no memory.
+    /// Gives the page that is being read in under the ticket the bytes that the ticket read. Allocates no memory.
     pub fn fill(&mut self, page: PageId, ticket: &InTicket)
         requires { (label : Label) × (f b : ℕ) × HasResidence self.old.pages page.0 label (Coming f b ticket.now.number) }
         ensures bytes { (q o : ℕ) → byte_in self.new.bytes q o ≡ (if q == page.0 then slice_index ticket.now.bytes o else byte_in self.old.bytes q o) }
@@ -481,9 +478,9 @@ impl Pages {
         fill_at(&mut self.owned[page.0 as usize], ticket.read());
     }
 
-    /// The transfer of the page, which is under way under the ticket, has ended, and the ticket with it: the page is in its
-    /// frame or on its block, where a page of a file is no page any more. Hands out what the page owns no
-    /// more, and what the ticket carried. Takes no memory.
+    /// Ends the transfer of the page under the ticket, and spends the ticket. The page is then in its frame or on its
+    /// block; a page of a file on its block no longer exists. Returns what the page no longer owns, and what the ticket
+    /// carried. Allocates no memory.
     pub fn settle<B: Carries>(&mut self, page: PageId, ticket: Ticket<B>, end: End) -> Settled<B>
         requires { (d : Direction) × (label : Label) × (f b : ℕ) × HasResidence self.old.pages page.0 label (moving d f b ticket.number) }
         ensures ends { (d : Direction) (label : Label) (f b : ℕ) → HasResidence self.old.pages page.0 label (moving d f b ticket.number) → Ends self.old self.new page.0 label f b ticket.number end }
@@ -513,8 +510,8 @@ impl Pages {
         }
     }
 
-    /// The page is of the group that its group hangs below, and so is its charge, if it has one (kernel:
-    /// the charges of a memory cgroup that goes are its parent's). Takes no memory.
+    /// Moves the page, and its charge if it has one, to the parent of its group (kernel: the charges of a memory cgroup
+    /// that is removed become its parent's). Allocates no memory.
     pub fn reparent(&mut self, counters: &mut Counters, page: PageId, parent: GroupId)
         requires there { (x : Page) × (page_at self.old.pages page.0 ≡ Some x) × ((node_at counters.old.tree x.group).parent ≡ Some parent.0) × (has_frame x ≡ true → IsOut counters.old x.group) }
         requires parent { parent.0 < self.old.groups }
@@ -532,8 +529,8 @@ impl Pages {
         self.members.push_back(ListId(parent.0), page);
     }
 
-    /// The page is gone: what it owned is the caller's to give back. It is in no transfer. Takes no
-    /// memory.
+    /// Removes the page and returns what it owned, which the caller must give back. The page is not in transfer.
+    /// Allocates no memory.
     pub fn drop_page(&mut self, page: PageId) -> OwnedPage
         requires there { IsSome (page_at self.old.pages page.0) }
         requires settled { is_moving_in self.old.pages page.0 ≡ false }
@@ -554,28 +551,28 @@ impl Pages {
         owned
     }
 
-    /// Nothing is done: what holds of all pages.
+    /// Does nothing. The contract states what holds of all pages.
     pub fn are_in_flight(&self)
         ensures { AreInFlight self.now.pages self.now.flights }
     {
         let _ = &self.flights;
     }
 
-    /// Nothing is done: what holds of pages of files.
+    /// Does nothing. The contract states what holds of pages of files.
     pub fn are_filed(&self)
         ensures { AreFiled self.now.files self.now.pages }
     {
         let _ = &self.files;
     }
 
-    /// Nothing is done: the number of each page is below [`Pages::numbers`].
+    /// Does nothing. The contract states that the number of each page is below [`Pages::numbers`].
     pub fn are_numbered(&self)
         ensures { (p : ℕ) → IfSome (page_at self.now.pages p) (λ page. p < self.now.numbers) }
     {
         let _ = &self.owned;
     }
 
-    /// Spends the pages: what they own, by page number.
+    /// Spends the pages. Returns what they own, by page number.
     pub fn into_owned(self) -> Vec<Option<OwnedPage>>
         ensures { map (option_map page_of) result.items ≡ self.pages }
     {

@@ -1,4 +1,4 @@
-//! What a page holds, times where it is.
+//! The content of a page, and its place.
 
 ghost use Rattle.std.specs.Prelude.{◌≡◌, true};
 ghost use Rattle.pages.specs.Backed.{is_backed};
@@ -18,12 +18,12 @@ pub struct FilePage {
     pub page: u32,
 }
 
-/// What a page holds, wherever it is.
+/// The content of a page, wherever it is.
 #[derive(Clone, Copy)]
 pub enum Content {
     /// Memory of tasks.
     Memory,
-    /// A page of a file; `dirty` where it was written to since its home block had its bytes (kernel:
+    /// A page of a file. It is `dirty` if it was written to since its home block had its bytes (kernel:
     /// PG_dirty).
     OfFile { at: FilePage, dirty: bool },
 }
@@ -31,9 +31,9 @@ pub enum Content {
 /// The block that a page in transfer is read from, or written to.
 #[must_use]
 pub enum Backing {
-    /// Of memory of tasks: a swap slot, which is the page's.
+    /// For memory of tasks: a swap slot, which the page owns.
     Swap(Slot),
-    /// Of a page of a file: its home block, which nobody owns.
+    /// For a page of a file: its home block, which has no owner.
     Home(u32),
 }
 
@@ -51,7 +51,7 @@ impl Backing {
     }
 }
 
-/// Where a page is, with what it owns there. Each part of it has to be spent.
+/// Where a page is, with what it owns there. Each part of it must be spent.
 #[must_use]
 pub enum Place {
     /// In a frame.
@@ -59,7 +59,7 @@ pub enum Place {
         frame: Frame,
         charge: Charge,
     },
-    /// On its way between the frame and a block.
+    /// In transfer between the frame and a block.
     Moving {
         frame: Frame,
         charge: Charge,
@@ -67,16 +67,17 @@ pub enum Place {
         backing: Backing,
         ticket: TicketId,
     },
-    /// On the slot alone: no frame, and no charge.
+    /// Only on the slot: no frame, and no charge.
     Away {
         group: GroupId,
         slot: Slot,
     },
 }
 
-/// A page: what it holds, and where it is. It has to be spent.
+/// A page: its content and its place. It must be spent.
 ///
-/// Memory is never on its way from or to a home block, nor a page of a file from or to a slot or on one alone.
+/// Memory is never in transfer from or to a home block. A page of a file is never in transfer from or to a
+/// slot, and never only on one.
 #[must_use]
 pub struct OwnedPage {
     pub content: Content,

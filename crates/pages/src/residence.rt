@@ -9,6 +9,6 @@ pub enum Residence {
     Coming,
     /// It is being written out.
     Going,
-    /// On this block alone.
+    /// Only on this block.
     Away(u32),
 }

@@ -1,13 +1,13 @@
-//! What is read in.
+//! What a transfer reads in.
 
 use crate::owned_page::FilePage;
 use machine::id::PageId;
 
-/// What a transfer that begins reads in.
+/// What a new transfer reads in.
 #[derive(Clone, Copy)]
 pub enum Source {
-    /// Memory of tasks that is on its slot alone (kernel: `do_swap_page`).
+    /// Memory of tasks that is only on its slot (kernel: `do_swap_page`).
     Swapped(PageId),
-    /// A page of a file that no page holds, from its home block (kernel: `filemap_fault`).
+    /// A page of a file that no page holds yet, from its home block (kernel: `filemap_fault`).
     File(FilePage),
 }

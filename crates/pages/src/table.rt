@@ -37,7 +37,7 @@ use slab::Slab;
 use std::alloc::{AllocError, Global};
 use std::mem;
 
-/// What a page owns, if it is there.
+/// What a page owns, if it exists.
 pub(crate) fn owned_at(slots: &[Option<OwnedPage>], page: PageId) -> Option<&OwnedPage>
     ensures { option_copied result ≡ at slots.now page.0 }
 {
@@ -69,7 +69,7 @@ pub(crate) fn residence_of(owned: &OwnedPage) -> Residence
     }
 }
 
-/// Where a page is that goes this way.
+/// Where a page in transfer in this direction is.
 fn moving_residence(direction: Direction) -> Residence
     ensures { (f b n : ℕ) → result ≡ pages.residence_of (pages.moving direction f b n) }
 {
@@ -112,7 +112,7 @@ fn frame_bytes(place: &Place) -> &[u8; FRAME_BYTES]
     }
 }
 
-/// Changes a byte of the page in a frame that is there. A page of a file is dirty then.
+/// Changes a byte of an existing page in a frame. A page of a file is dirty then.
 pub(crate) fn write_at(slot: &mut Option<OwnedPage>, offset: usize, byte: u8)
     requires held { there_and is_held (option_map page_of slot.old) ≡ true }
     requires within { offset < page_size }
@@ -125,7 +125,7 @@ pub(crate) fn write_at(slot: &mut Option<OwnedPage>, offset: usize, byte: u8)
     }
 }
 
-/// The same, of what a page in a frame owns.
+/// The same, for what a page in a frame owns.
 fn write_in(owned: &mut OwnedPage, offset: usize, byte: u8)
     requires held { is_held (page_of owned.old) ≡ true }
     requires within { offset < page_size }
@@ -139,7 +139,7 @@ fn write_in(owned: &mut OwnedPage, offset: usize, byte: u8)
     owned.content.make_dirty();
 }
 
-/// Other bytes in place of all of those of the page that is being read in there.
+/// Replaces all bytes of the page that is being read in here.
 pub(crate) fn fill_at(slot: &mut Option<OwnedPage>, bytes: &[u8; FRAME_BYTES])
     requires { (label : Label) × (f b n : ℕ) × (option_map page_of slot.old ≡ Some (labelled label (Coming f b n))) }
     ensures page { option_map page_of slot.new ≡ option_map page_of slot.old }
@@ -151,7 +151,7 @@ pub(crate) fn fill_at(slot: &mut Option<OwnedPage>, bytes: &[u8; FRAME_BYTES])
     }
 }
 
-/// The same, of where the page is.
+/// The same, for the place of the page.
 fn fill_in(place: &mut Place, bytes: &[u8; FRAME_BYTES])
     requires { in_transfer_at (residence_at place.old) ≡ true }
     ensures residence { residence_at place.new ≡ residence_at place.old }
@@ -165,7 +165,7 @@ fn fill_in(place: &mut Place, bytes: &[u8; FRAME_BYTES])
     }
 }
 
-/// Zeros in place of all bytes, but for one.
+/// Replaces all bytes except one by zeros.
 #[tactic(auto, using(crate::proofs::TableLemmas::zeros_but))]
 pub(crate) fn set_zeros_but(frame: &mut Frame, offset: usize, byte: u8)
     requires { offset < page_size }
@@ -176,7 +176,7 @@ pub(crate) fn set_zeros_but(frame: &mut Frame, offset: usize, byte: u8)
     frame.write(offset, byte);
 }
 
-/// These bytes in place of all of them, but for one.
+/// Replaces all bytes except one by these bytes.
 #[tactic(auto, using(crate::proofs::TableLemmas::but_one))]
 pub(crate) fn set_bytes_but(frame: &mut Frame, bytes: &[u8; FRAME_BYTES], offset: usize, byte: u8)
     requires { offset < page_size }
@@ -197,7 +197,7 @@ pub(crate) fn take_at(slots: &mut Vec<Option<OwnedPage>>, page: PageId) -> Owned
     slots[page.0 as usize].take().unwrap()
 }
 
-/// Puts what a page owns at its number, where nothing is.
+/// Stores what a page owns at its number, which is empty.
 pub(crate) fn place(slots: &mut Vec<Option<OwnedPage>>, page: PageId, owned: OwnedPage)
     requires vacant { at slots.old.items page.0 ≡ None }
     requires room { page.0 < vec_capacity slots.old }
@@ -224,7 +224,7 @@ fn reach(slots: &mut Vec<Option<OwnedPage>>, number: usize)
     }
 }
 
-/// What a page in a frame owns, and what it holds.
+/// What a page in a frame owns, and its content.
 pub(crate) fn into_held(owned: OwnedPage) -> (Frame, Charge, Content)
     requires { is_held_at (page_of owned).residence ≡ true }
     ensures frame { frame_at (page_of owned).residence ≡ Some result.0.number }
@@ -239,7 +239,7 @@ pub(crate) fn into_held(owned: OwnedPage) -> (Frame, Charge, Content)
     }
 }
 
-/// What a page in transfer owns, and what it holds.
+/// What a page in transfer owns, and its content.
 pub(crate) fn into_moving(owned: OwnedPage) -> (Frame, Charge, Backing, Content)
     requires { in_transfer_at (page_of owned).residence ≡ true }
     ensures frame { frame_at (page_of owned).residence ≡ Some result.0.number }
@@ -262,7 +262,7 @@ pub(crate) fn into_moving(owned: OwnedPage) -> (Frame, Charge, Backing, Content)
     }
 }
 
-/// What a page owns once its transfer has ended, if it is one still, and what it owns no more.
+/// What a page owns after its transfer, if it still exists, and what it no longer owns.
 pub(crate) fn divide(
     frame: Frame,
     charge: Charge,
@@ -287,7 +287,7 @@ pub(crate) fn divide(
     }
 }
 
-/// What a page in its frame owns no more of where it came from.
+/// The part of its source that a page in its frame no longer owns.
 fn freed_backing(backing: Backing) -> Freed
     ensures { (content : Content_of) (g f : ℕ) → is_backing_of content backing ≡ true → IsFreed (label_holding content g) f (block_of backing) end_of.InFrame result }
 {
@@ -297,7 +297,7 @@ fn freed_backing(backing: Backing) -> Freed
     }
 }
 
-/// What a page out of its frame owns: a page of a file is no page any more.
+/// What a page out of its frame owns. A page of a file no longer exists.
 fn left_on(content: Content, group: GroupId, backing: Backing) -> Option<OwnedPage>
     requires { is_backing_of content backing ≡ true }
     ensures { (f : ℕ) → option_map page_of result ≡ page_after end_of.OnBlock (label_holding content group.0) f (block_of backing) }
@@ -311,7 +311,7 @@ fn left_on(content: Content, group: GroupId, backing: Backing) -> Option<OwnedPa
     }
 }
 
-/// Where a page that leaves its frame is written: to the slot, or home.
+/// The block that a page is written to when it leaves its frame: the slot, or its home.
 pub(crate) fn backing_for(files: &Files, content: Content, slot: Option<Slot>) -> Backing
     requires by { LeavesBy (content_of content) (is_dirty content) slot }
     requires inside { IfSome (file_at (content_of content)) (λ a. a.page < slice_index files.now.sizes a.file) }
@@ -324,7 +324,7 @@ pub(crate) fn backing_for(files: &Files, content: Content, slot: Option<Slot>) -
     }
 }
 
-/// The home block of what a page holds that is a page of a file.
+/// The home block of a content that is a page of a file.
 fn home_of(files: &Files, content: Content) -> u32
     requires file { is_some (file_at (content_of content)) ≡ true }
     requires inside { IfSome (file_at (content_of content)) (λ a. a.page < slice_index files.now.sizes a.file) }
@@ -336,7 +336,7 @@ fn home_of(files: &Files, content: Content) -> u32
     }
 }
 
-/// What a page on its block alone owns.
+/// What a page that is only on its block owns.
 pub(crate) fn into_away(owned: OwnedPage) -> Slot
     requires { frame_at (page_of owned).residence ≡ None }
     ensures { block_at (page_of owned).residence ≡ Some result }
@@ -348,8 +348,7 @@ pub(crate) fn into_away(owned: OwnedPage) -> Slot
     }
 }
 
-/// What the page owns once it is of the group that its group hangs below: its charge, if it has one, is
-/// that group's.
+/// What the page owns after it moves to the parent of its group: its charge, if it has one, is the parent's.
 pub(crate) fn regrouped(owned: OwnedPage, parent: GroupId, counters: &mut Counters) -> OwnedPage
     requires below { (node_at counters.old.tree (page_of owned).group).parent ≡ Some parent.0 }
     requires out { has_frame (page_of owned) ≡ true → IsOut counters.old (page_of owned).group }
@@ -364,7 +363,7 @@ pub(crate) fn regrouped(owned: OwnedPage, parent: GroupId, counters: &mut Counte
     OwnedPage { content, place }
 }
 
-/// The same, of where the page is.
+/// The same, for the place of the page.
 fn moved_up(place: Place, parent: GroupId, counters: &mut Counters) -> Place
     requires below { (node_at counters.old.tree (group_at place)).parent ≡ Some parent.0 }
     requires out { is_some (frame_at (residence_at place)) ≡ true → IsOut counters.old (group_at place) }
@@ -401,7 +400,7 @@ fn moved_up(place: Place, parent: GroupId, counters: &mut Counters) -> Place
     }
 }
 
-/// Memory for so many numbers. `AllocError` where there is none.
+/// Memory for this many numbers. `AllocError` if memory runs out.
 pub(crate) fn open_numbers<T: Drop>(alloc: Global, many: u32) -> Result<Slab<T>, AllocError>
     ensures empty { IfOk result (λ s. s.slots ≡ []) }
     ensures many { IfOk result (λ s. s.capacity ≡ many) }
@@ -413,8 +412,8 @@ pub(crate) fn open_numbers<T: Drop>(alloc: Global, many: u32) -> Result<Slab<T>,
     Ok(slab)
 }
 
-/// The list of the root's pages, with none, and links for so many page numbers. `AllocError` where there
-/// is no memory, or where there are 2^31 page numbers or more.
+/// The empty list of the root's pages, and links for this many page numbers. `AllocError` if there is no
+/// memory, or if there are 2^31 page numbers or more.
 pub(crate) fn open_members(alloc: Global, numbers: u32) -> Result<Rings, AllocError>
     ensures lists { IfOk result (λ r. r.lists ≡ [] ∷ []) }
     ensures numbers { IfOk result (λ r. r.numbers ≡ numbers) }
@@ -425,8 +424,8 @@ pub(crate) fn open_members(alloc: Global, numbers: u32) -> Result<Rings, AllocEr
     Ok(members)
 }
 
-/// The page sets out in this direction, from or to this block, under a ticket that was free: the ticket, and
-/// what the page owns from now on.
+/// Begins the page's transfer in this direction, from or to this block, under a ticket that was free.
+/// Returns the ticket, and what the page owns from now on.
 pub(crate) fn begin(
     flights: &mut Slab<Flight>,
     page: PageId,
@@ -457,7 +456,7 @@ pub(crate) fn begin(
     (ticket, OwnedPage { content, place })
 }
 
-/// The transfer of a ticket has ended, and the ticket's number is free again.
+/// Ends the transfer of a ticket, whose number is free again.
 pub(crate) fn unlist(flights: &mut Slab<Flight>, ticket: TicketId)
     requires { ContainsKey flights.old ticket.0 }
     ensures unlisted { Changes flights.old.slots flights.new.slots ticket.0 None }
@@ -479,7 +478,7 @@ pub(crate) fn home(files: &Files, file: u32, page: u32) -> u32
     block
 }
 
-/// Its place in the cache: how far its home block is behind the first.
+/// Its place in the cache: the distance of its home block from the first.
 pub(crate) fn home_place(files: &Files, file: u32, page: u32) -> usize
     requires { page < slice_index files.now.sizes file }
     ensures place { result ≡ place_in files.now file page }
@@ -488,7 +487,7 @@ pub(crate) fn home_place(files: &Files, file: u32, page: u32) -> usize
     (home(files, file, page) - files.first()) as usize
 }
 
-/// So many places, with no page. `AllocError` where there is no memory.
+/// This many places without a page. `AllocError` if there is no memory.
 pub(crate) fn open_places(alloc: Global, many: u32) -> Result<Vec<Option<PageId>>, AllocError>
     ensures len { IfOk result (λ c. vec_len c ≡ many) }
     ensures empty { IfOk result (λ c. (n : ℕ) → at c.items n ≡ None) }
@@ -500,7 +499,7 @@ pub(crate) fn open_places(alloc: Global, many: u32) -> Result<Vec<Option<PageId>
     Ok(places)
 }
 
-/// The page has this frame from now on.
+/// Notes that the page has this frame from now on.
 pub(crate) fn note(by_frame: &mut Vec<Option<PageId>>, frame: FrameId, page: PageId)
     requires { frame.0 < length by_frame.old.items }
     ensures noted { Changes by_frame.old.items by_frame.new.items frame.0 (Some page) }
@@ -509,7 +508,7 @@ pub(crate) fn note(by_frame: &mut Vec<Option<PageId>>, frame: FrameId, page: Pag
     by_frame[frame.0 as usize] = Some(page);
 }
 
-/// The page that is told by the frame of this number, if one is.
+/// The page that the entry of this frame number names, if any.
 pub(crate) fn told_at(by_frame: &[Option<PageId>], number: usize) -> Option<PageId>
     ensures { result ≡ at by_frame.now number }
 {
@@ -519,7 +518,7 @@ pub(crate) fn told_at(by_frame: &[Option<PageId>], number: usize) -> Option<Page
     }
 }
 
-/// Whether the page is held in the frame of this number.
+/// Whether the page is held in the frame with this number.
 pub(crate) fn is_in_frame(slots: &[Option<OwnedPage>], page: PageId, number: usize) -> bool
     ensures { result ≡ there_and (is_held_frame number) (option_map page_of (at slots.now page.0)) }
 {
@@ -538,7 +537,7 @@ fn is_frame(place: &Place, number: usize) -> bool
     }
 }
 
-/// The page is gone: its number, its place on its group's list, and its place in the cache, if it holds a
+/// Removes the page. Its number, its place on its group's list, and its place in the cache, if it holds a
 /// page of a file, are free.
 pub(crate) fn leave(
     numbers: &mut Slab<()>,
@@ -567,8 +566,8 @@ pub(crate) fn leave(
     }
 }
 
-/// What the page owns once its transfer has ended, if it is one still; if not, it is gone. What it owned
-/// was taken out.
+/// Stores what the page owns after its transfer, if it still exists. Otherwise removes the page. The caller
+/// has taken out what it owned.
 pub(crate) fn land(
     numbers: &mut Slab<()>,
     slots: &mut Vec<Option<OwnedPage>>,

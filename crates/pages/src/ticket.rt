@@ -10,16 +10,16 @@ use machine::id::{TicketId, WorkerId};
 use std::marker::Model;
 use std::sync::Wait;
 
-/// What a ticket carries: the bytes of a page. Each kind of it is given up in its own way.
+/// What a ticket carries: the bytes of a page. Each kind is released in its own way.
 pub trait Carries {
-    // The bytes that it has.
+    // The carried bytes.
     ghost bytes: { Self → List ℕ };
 
-    /// Gives up the memory of the bytes.
+    /// Frees the memory of the bytes.
     fn give_up(self);
 }
 
-/// What a page that is being read in arrives in.
+/// The buffer for a page that is being read in.
 impl Carries for Box<[u8; FRAME_BYTES]> {
     ghost bytes = { λ buffer. buffer.value };
 
@@ -28,7 +28,7 @@ impl Carries for Box<[u8; FRAME_BYTES]> {
     }
 }
 
-/// A copy of a page that is being written out.
+/// The copy of a page that is being written out.
 impl Carries for Spare {
     ghost bytes = { λ spare. spare };
 
@@ -37,11 +37,11 @@ impl Carries for Spare {
     }
 }
 
-/// A page is in transfer: the worker who holds this reads or writes its block and hands the ticket to
-/// the book. It is no `Drop`: a transfer has to be ended.
+/// A page is in transfer. The worker who holds this reads or writes its block, and hands the ticket to the
+/// book. It is not `Drop`: a transfer must be ended.
 ///
-/// A contract sees it as its number, its taker, the place of its entry, its block, its bytes, and
-/// whether it was handed back.
+/// A contract sees its number, its worker, the place of its entry, its block, its bytes, and whether the book
+/// handed it back.
 #[must_use]
 pub struct Ticket<B: Carries> {
     number: TicketId,
@@ -52,10 +52,10 @@ pub struct Ticket<B: Carries> {
     carried: B,
 }
 
-/// A page is being read in: whoever holds this reads the block into the buffer.
+/// A page is being read in. The worker who holds this reads the block into the buffer.
 pub type InTicket = Ticket<Box<[u8; FRAME_BYTES]>>;
 
-/// A page is being written out: whoever holds this writes the copy of its bytes to the block.
+/// A page is being written out. The worker who holds this writes the copy of its bytes to the block.
 pub type OutTicket = Ticket<Spare>;
 
 impl<B: Carries> Model for Ticket<B> {
@@ -67,7 +67,7 @@ impl<B: Carries> Model for Ticket<B> {
 }
 
 impl<B: Carries> Ticket<B> {
-    // It is nobody's yet: whoever gives it out stamps it.
+    // The ticket has no worker yet. The code that hands it out stamps it.
     pub(crate) fn new(number: TicketId, block: u32, carried: B) -> Self
         ensures { result ≡ new_ticket number.0 block (B.bytes carried) }
     {
@@ -81,7 +81,7 @@ impl<B: Carries> Ticket<B> {
         }
     }
 
-    /// The same ticket, given out to the worker by the entry at this place of the trace, from 1.
+    /// The same ticket, handed out to the worker by the entry at this place of the trace, counted from 1.
     pub fn stamp(self, worker: WorkerId, entry: u32) -> Self
         ensures { result ≡ stamped self worker.0 entry }
     {
@@ -110,14 +110,14 @@ impl<B: Carries> Ticket<B> {
         self.number
     }
 
-    /// The worker that it was given to, and 0 before it was stamped.
+    /// The worker that received it, or 0 before it was stamped.
     pub fn worker(&self) -> WorkerId
         ensures { result.0 ≡ self.now.worker }
     {
         self.worker
     }
 
-    /// The place in the trace of the entry that gave it out, from 1, and 0 before it was stamped.
+    /// The place in the trace of the entry that handed it out, counted from 1, or 0 before it was stamped.
     pub fn entry(&self) -> u32
         ensures { result ≡ self.now.entry }
     {
@@ -131,7 +131,7 @@ impl<B: Carries> Ticket<B> {
         self.block
     }
 
-    /// Whether the book handed it back to the worker that it was given to.
+    /// Whether the book handed it back to its worker.
     pub fn handed(&self) -> bool
         ensures { result ≡ self.now.handed }
     {
@@ -167,7 +167,7 @@ impl<B: Carries> Ticket<B> {
         self.into_carried().give_up();
     }
 
-    /// Spends the ticket: what it carried.
+    /// Spends the ticket. Returns what it carried.
     pub(crate) fn into_carried(self) -> B
         ensures { B.bytes result ≡ self.bytes }
     {
@@ -184,7 +184,7 @@ impl<B: Carries> Ticket<B> {
 }
 
 impl Ticket<Box<[u8; FRAME_BYTES]>> {
-    /// Reads the block, and keeps its bytes. After a fault the ticket holds any bytes.
+    /// Reads the block, and keeps its bytes. After a fault the ticket may hold any bytes.
     pub fn read_from<D: BlockDevice>(&mut self, device: &mut D) -> Result<(), Fault>
         requires { self.old.block < length (D.disk device.old).contents }
         ensures read { ReadsBlock (D.disk device.old) self.old.block result self.new.bytes (D.disk device.new) }
@@ -195,7 +195,7 @@ impl Ticket<Box<[u8; FRAME_BYTES]>> {
         device.read(self.block, &mut self.carried)
     }
 
-    /// The same from a device that others use meanwhile. It may wait.
+    /// The same, from a device that others use at the same time. It may wait.
     pub fn read_shared<D: SharedDevice, R: Wait>(&mut self, rt: &R, device: &D) -> Result<(), Fault>
         requires { self.old.block < D.extent device.now }
         ensures same { self.new ≡ record self.old { bytes = self.new.bytes } }
@@ -203,14 +203,15 @@ impl Ticket<Box<[u8; FRAME_BYTES]>> {
         device.read(rt, self.block, &mut self.carried)
     }
 
-    /// Keeps these bytes as those of the block, for whoever reads it by other means than [`Ticket::read_from`].
+    /// Keeps these bytes as the block's. This is for workers that read the block by other means than
+    /// [`Ticket::read_from`].
     pub fn fill(&mut self, bytes: &[u8; FRAME_BYTES])
         ensures { self.new ≡ record self.old { bytes = bytes.now } }
     {
         *self.carried = *bytes;
     }
 
-    /// What was read.
+    /// The bytes that were read.
     pub(crate) fn read(&self) -> &[u8; FRAME_BYTES]
         ensures { result.now ≡ self.now.bytes }
     {
@@ -229,14 +230,14 @@ impl Ticket<Spare> {
         device.write(self.block, self.bytes())
     }
 
-    /// The same to a device that others use meanwhile. It may wait.
+    /// The same, to a device that others use at the same time. It may wait.
     pub fn write_shared<D: SharedDevice, R: Wait>(&self, rt: &R, device: &D) -> Result<(), Fault>
         requires { self.now.block < D.extent device.now }
     {
         device.write(rt, self.block, self.bytes())
     }
 
-    /// What the page held when it was taken.
+    /// The page's bytes when the transfer began.
     pub fn bytes(&self) -> &[u8; FRAME_BYTES]
         ensures { result.now ≡ self.now.bytes }
     {

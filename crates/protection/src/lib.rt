@@ -1,42 +1,43 @@
-//! Effective protection: how much of its memory a group keeps from a reclaim of a group above it
+//! Effective protection: how much of its memory a group keeps when a group above it is reclaimed
 //! (kernel: mm/page_counter.c, effective_protection).
 //!
-//! 1. The reclaim's target has no protection from itself, and its own `memory.min` protects none
-//!    below it: a group whose limit is full has to find its pages there.
-//! 2. A child of the target has its `memory.min` as it stands, since no group stands between them.
-//! 3. Below that, a group asks for what it uses, at most its `memory.min`. What it does not use
+//! 1. The reclaim's target has no protection from itself. Its own `memory.min` does not protect the groups
+//!    below it either: a group whose limit is full must find pages there.
+//! 2. The effective min of a child of the target is its `memory.min`, since no group is between them.
+//! 3. A group further down claims what it uses, at most its `memory.min`. The unused part of the setting
 //!    needs no protection, and is left to its siblings.
-//! 4. It has what it asks for, where its parent's effective value is as much as the parent's
-//!    children ask for together. Where they ask for more, each has a part of that value in
-//!    proportion to what it asks for, rounded down. So together they never have more than it.
-//! 5. With recursive protection, what the children leave of their parent's value is shared out too:
-//!    each has a part of it in proportion to what it uses beyond what it asks for, out of what the
-//!    parent uses beyond what its children ask for, rounded down. So a group without a
-//!    `memory.min` has protection as well. What the parent uses in no live child has its part too,
-//!    which then goes to nobody. Where the parent's value is `max`, and it uses more than its
-//!    children ask for, each child that uses more than it asks for has `max` too.
+//! 4. A group gets its full claim if the claims of all children of its parent add up to at most the parent's
+//!    effective value. If they add up to more, each child gets a share of that value in
+//!    proportion to its claim, rounded down. Together the children never get more than that value.
+//! 5. With recursive protection, the part of the parent's value that the children do not claim is shared out
+//!    too. A child's share is this part, times the child's unclaimed use, divided by the parent's unclaimed
+//!    use, rounded down. The child's unclaimed use is what it uses beyond its claim; the parent's is what it
+//!    uses beyond the claims of all its children. A group without a `memory.min` can therefore be protected
+//!    too. What the parent uses in no live child takes a share as well, and no group gets that share. If the
+//!    parent's value is `max`, and it uses more than its children claim, each child that uses more than its
+//!    claim gets `max` too.
 //!
-//! For `memory.low` the same rules hold over the groups' `memory.low`.
+//! For `memory.low` the same rules apply to the groups' `memory.low`.
 //!
-//! So for a reclaim of the root, in pages:
+//! For example, for a reclaim of the root, in pages:
 //!
 //! ```text
-//! group   memory.min   uses   asks for   effective
-//! /p               4      8                      4   (a child of the target: rule 2)
-//! /p/a             6      6          6           3   = 6 * 4 / (6 + 2)
-//! /p/b             6      2          2           1   = 2 * 4 / (6 + 2)
+//! group   memory.min   uses   claim   effective
+//! /p               4      8                   4   (a child of the target: rule 2)
+//! /p/a             6      6       6           3   = 6 * 4 / (6 + 2)
+//! /p/b             6      2       2           1   = 2 * 4 / (6 + 2)
 //! ```
 //!
-//! The value belongs to a group and a target, not to the group alone: for a reclaim of `/p`, both
-//! `/p/a` and `/p/b` have 6.
+//! The value belongs to a group and a target, not only to the group: for a reclaim of `/p`, both `/p/a`
+//! and `/p/b` have 6.
 //!
-//! With recursive protection, and more to give than is asked for:
+//! With recursive protection, if the parent has more to share than its children claim:
 //!
 //! ```text
-//! group   memory.min   uses   asks for   effective
-//! /p               8     10                      8
-//! /p/a             2      6          2           5   = 2 + (8 - 2) * (6 - 2) / (10 - 2)
-//! /p/b             0      4          0           3   = 0 + (8 - 2) * (4 - 0) / (10 - 2)
+//! group   memory.min   uses   claim   effective
+//! /p               8     10                   8
+//! /p/a             2      6       2           5   = 2 + (8 - 2) * (6 - 2) / (10 - 2)
+//! /p/b             0      4       0           3   = 0 + (8 - 2) * (4 - 0) / (10 - 2)
 //! ```
 #![tactic(auto)]
 
@@ -50,18 +51,18 @@ use machine::id::GroupId;
 use machine::record::Guard;
 use page_counter::Counters;
 
-/// A reclaim of the target, as the protection of the groups below it sees it (kernel: the arguments
-/// of mem_cgroup_calculate_protection).
+/// A reclaim of the target, as the protection of the groups below it depends on it (kernel: the
+/// arguments of mem_cgroup_calculate_protection).
 #[derive(Clone, Copy)]
 pub struct Protection<'t, 'c> {
     /// The groups.
     pub tree: &'t Tree,
-    /// Their limits, and what they use.
+    /// Their limits and counts.
     pub counters: &'c Counters,
-    /// Whether a group has a part of what its siblings leave, too (kernel:
+    /// Whether a group also gets a share of the protection that its siblings do not claim (kernel:
     /// CGRP_ROOT_MEMORY_RECURSIVE_PROT).
     pub recursive: bool,
-    /// The group that is reclaimed from, with all below it (kernel: target_mem_cgroup).
+    /// The group that is reclaimed, with all groups below it (kernel: target_mem_cgroup).
     pub target: GroupId,
     /// The counters are those of these groups.
     pub ghost kin: { AreKin counters.now.tree tree.now },
@@ -72,9 +73,9 @@ impl<'t, 'c> Protection<'t, 'c> {
     ghost use Rattle.machine.specs.Tree.{is_live, under};
     ghost use Rattle.protection.specs.Effective.{effective_by, is_beyond_by};
 
-    /// A group's effective `memory.min` or `memory.low`: while it uses no more, with all below it, that
-    /// protects it from a reclaim of the target (kernel: effective_protection). The target is above the
-    /// group.
+    /// A group's effective `memory.min` or `memory.low`. The group is protected from a reclaim of the
+    /// target while it uses, with all groups below it, no more than this (kernel: effective_protection).
+    /// The target is above the group.
     pub fn effective(self, guard: Guard, group: GroupId) -> Amount
         requires live { is_live self.tree.now group.0 ≡ true }
         requires under { under self.tree.now self.target.0 group.0 ≡ true }
@@ -92,15 +93,15 @@ impl<'t, 'c> Protection<'t, 'c> {
         let parent_usage = self.counters.usage(parent);
         let usage = self.counters.usage(group);
         let own = self.counters.guard_usage(guard, group);
-        // The children of a group count together no more than it does.
+        // The children of a group together count no more than the group.
         self.counters.are_counted();
         below_parent(self.recursive, above, siblings, parent_usage, usage, own)
     }
 
-    /// Whether the group uses no more than its effective `memory.min`, so that a reclaim of the target
-    /// takes nothing from it, or than its effective `memory.low`, so that it is passed over while others
-    /// have something (kernel: mem_cgroup_below_min, mem_cgroup_below_low). The target itself is never
-    /// protected.
+    /// Whether the group uses no more than its effective `memory.min`, or its effective `memory.low`. In
+    /// the first case a reclaim of the target evicts none of its pages. In the second case it does so
+    /// only if other groups have no page to evict (kernel: mem_cgroup_below_min, mem_cgroup_below_low).
+    /// The target itself is never protected.
     pub fn is_protected(self, guard: Guard, group: GroupId) -> bool
         requires live { is_live self.tree.now group.0 ≡ true }
         requires under { under self.tree.now self.target.0 group.0 ≡ true }
@@ -114,9 +115,9 @@ impl<'t, 'c> Protection<'t, 'c> {
     }
 }
 
-/// The effective value of a group, where that of its parent is `above`, the parent uses
-/// `parent_usage`, and all its children ask together for `siblings`; and the group itself uses
-/// `usage`, and asks for `own` of that.
+/// The effective value of a group. Its parent has the effective value `above` and uses `parent_usage`,
+/// and the parent's children together claim `siblings`. The group itself uses `usage`, and claims `own`
+/// of that.
 fn below_parent(
     recursive: bool,
     above: Amount,
@@ -136,8 +137,8 @@ fn below_parent(
     }
 }
 
-/// A group's part of its parent's effective value, `above`, where it asks for `own`, and all
-/// children of the parent together for `siblings`.
+/// A group's share of its parent's effective value, `above`. The group claims `own`, and all children of
+/// the parent together claim `siblings`.
 fn part_of(above: Amount, siblings: u64, own: u64) -> Amount
     ensures { result ≡ part_of above siblings own }
 {
@@ -147,13 +148,13 @@ fn part_of(above: Amount, siblings: u64, own: u64) -> Amount
     if value >= siblings {
         return Amount::Pages(own);
     }
-    // The product may be larger than any count. The part is at most what is asked for.
+    // The product may be larger than any count. The share is at most the claim.
     let part = u128::from(own) * u128::from(value) / u128::from(siblings);
     Amount::Pages(part as u64)
 }
 
-/// What a group asks for, and its part of what all children of its parent leave of the parent's
-/// effective value, `above`.
+/// A group's claim, and its share of the part of the parent's effective value, `above`, that no child of
+/// the parent claims.
 fn with_rest(above: Amount, siblings: u64, parent_usage: u64, usage: u64, own: u64) -> Amount
     requires asked { own ≤ siblings }
     requires fits { usage + siblings ≤ parent_usage + own }
@@ -168,8 +169,8 @@ fn with_rest(above: Amount, siblings: u64, parent_usage: u64, usage: u64, own: u
     if value <= siblings {
         return Amount::Pages(own);
     }
-    // The product may be larger than any count. The part is at most the rest, since the group uses no
-    // more beyond what it asks for than its parent does.
+    // The product may be larger than any count. The share is at most the part to be shared, since the
+    // group's unclaimed use is at most the parent's.
     let rest = u128::from(value - siblings) * u128::from(usage - own)
         / u128::from(parent_usage - siblings);
     Amount::Pages(own + rest as u64)

@@ -9,12 +9,12 @@ use machine::id::GroupId;
 use std::alloc::{AllocError, Global};
 use std::marker::Model;
 
-/// The group that gives a page to a reclaim.
+/// The group that a reclaim evicts a page from.
 #[derive(Clone, Copy)]
 pub struct Served {
     pub group: GroupId,
-    /// Its low protects it, and no group that is not so protected has a page to give (kernel:
-    /// memcg_low_reclaim of a `struct scan_control`).
+    /// The group's low protects it, and no reclaimable page belongs to a group that its low does not
+    /// protect (kernel: memcg_low_reclaim of a `struct scan_control`).
     pub low_reclaim: bool,
 }
 
@@ -22,10 +22,10 @@ pub struct Served {
 /// `struct mem_cgroup_reclaim_iter`).
 ///
 /// A contract sees the numbers of those groups as a list by the targets' numbers, and for how many
-/// targets more there is memory.
+/// further targets there is memory.
 #[derive(Drop)]
 pub struct Cursors {
-    /// By target: the group that was served last, or `None` where none was.
+    /// By target: the group that was served last, or `None` if none was.
     last: Vec<Option<GroupId>>,
 }
 
@@ -43,7 +43,7 @@ impl Model for Cursors {
 }
 
 impl Cursors {
-    /// The root alone, for which none was served. `AllocError` where there is no memory for it.
+    /// Only the root, for which none was served. `AllocError` if there is no memory for it.
     pub fn new(alloc: Global) -> Result<Self, AllocError>
         ensures { IfOk result (λ c. c.cursors ≡ None ∷ []) }
     {
@@ -52,8 +52,8 @@ impl Cursors {
         Ok(Cursors { last })
     }
 
-    /// Asks for the memory of one target more. `AllocError` where there is none; the cursors are the
-    /// same either way.
+    /// Reserves the memory for another target. `AllocError` if memory runs out. The cursors do not
+    /// change in either case.
     pub fn reserve(&mut self) -> Result<(), AllocError>
         ensures room { OnOk result (0 < self.new.room) }
         ensures cursors { self.new.cursors ≡ self.old.cursors }
@@ -63,7 +63,7 @@ impl Cursors {
         self.last.reserve(1)
     }
 
-    /// A target more, for which none was served. Its memory was asked for by [`Cursors::reserve`].
+    /// Adds a target for which no group was served. [`Cursors::reserve`] reserved its memory.
     pub fn add_reserved(&mut self)
         requires room { 0 < self.old.room }
         ensures cursors { self.new.cursors ≡ self.old.cursors ++ None ∷ [] }
@@ -72,8 +72,8 @@ impl Cursors {
         self.last.push_reserved(None);
     }
 
-    /// A target more, for which none was served. `AllocError` where there is no memory for it, and
-    /// then the cursors are the same.
+    /// Adds a target for which no group was served. `AllocError` if there is no memory for it, and
+    /// then the cursors do not change.
     pub fn add(&mut self) -> Result<(), AllocError>
         ensures cursors { OnOk result (self.new.cursors ≡ self.old.cursors ++ None ∷ []) }
         ensures err { OnErr result (self.new.cursors ≡ self.old.cursors) }
@@ -84,9 +84,9 @@ impl Cursors {
         Ok(())
     }
 
-    /// The group is no target any more, and which group was served last for it is forgotten. Where
-    /// it was itself the one that was served last, for a group above it, the next pass of that
-    /// target begins at the target (kernel: invalidate_reclaim_iterators).
+    /// Ends the group as a target: the group that was served last for it is forgotten. If it was
+    /// itself the last one served for a group above it, the next pass of that target begins at the
+    /// target (kernel: invalidate_reclaim_iterators).
     pub fn remove(&mut self, group: GroupId)
         requires { group.0 < length self.old.cursors }
         ensures cursors { self.new.cursors ≡ slice_set self.old.cursors group.0 None }
@@ -95,18 +95,18 @@ impl Cursors {
         self.last[group.0 as usize] = None;
     }
 
-    /// The group that gives the next page to a reclaim of the target. Nothing changes. `None` where no
-    /// group at or below the target has a page to give.
+    /// The group that the reclaim of the target evicts the next page from. Nothing changes. `None` if
+    /// no group at or below the target has a page to evict.
     ///
-    /// A first pass leaves out the groups that their low protects. Where it finds none, a second one
-    /// asks these too (kernel: memcg_low_skipped, and the retry of do_try_to_free_pages).
+    /// A first pass skips the groups that are within their low. If it finds no group, a second one
+    /// includes them (kernel: memcg_low_skipped, and the retry of do_try_to_free_pages).
     pub fn next_group(&self, scan: ScanControl<'_, '_, '_>) -> Option<Served>
         requires { scan.protection.target.0 < length self.now.cursors }
-        // It is the one whose turn it is, in the pass that finds it.
+        // It is the next group in the order of the pass that finds it.
         ensures group { IfSome result (λ s. served_by scan.entry.protection.tree.now (gives_by scan.entry s.low_reclaim) scan.entry.protection.target.0 (cursor_at self.now.cursors scan.entry.protection.target.0) ≡ Some s.group.0) }
-        // The second pass comes only where nobody has a page to give in the first.
+        // The second pass follows only if the first finds no group.
         ensures spared { IfSome result (λ s. s.low_reclaim ≡ true → GivesNone scan.entry false) }
-        // There is one exactly where one has a page to give.
+        // A group is found exactly if one has a page to evict.
         ensures giver { IfSome result (λ s. IsGiver scan.entry s.low_reclaim s.group.0) }
         ensures none { IfNone result (GivesNone scan.entry true) }
     {
@@ -125,8 +125,8 @@ impl Cursors {
         })
     }
 
-    /// The group gives a page to a reclaim of the target: the target's cursor goes to it. It takes no
-    /// memory.
+    /// The reclaim of the target evicts a page of the group, and the target's cursor moves to the
+    /// group. Allocates no memory.
     pub fn serve(&mut self, target: GroupId, group: GroupId)
         requires cursor { target.0 < length self.old.cursors }
         ensures cursors { self.new.cursors ≡ slice_set self.old.cursors target.0 (Some group.0) }

@@ -14,8 +14,8 @@ use machine::id::GroupId;
 use machine::record::Guard;
 
 impl<'t, 'c, 'g> ScanControl<'t, 'c, 'g> {
-    /// The group that gives a page to the target, where `last` was served last: in a pass that takes from
-    /// groups that their low protects (kernel: memcg_low_reclaim), or in one that does not.
+    /// The group that the target evicts a page from, if `last` was served last. The pass includes the
+    /// groups that their low protects (kernel: memcg_low_reclaim), or skips them.
     pub(crate) fn served(self, low_reclaim: bool, last: Option<GroupId>) -> Option<GroupId>
         ensures { number result ≡ served_by self.entry.protection.tree.now (gives_by self.entry low_reclaim) self.entry.protection.target.0 (number last) }
     {
@@ -28,8 +28,8 @@ impl<'t, 'c, 'g> ScanControl<'t, 'c, 'g> {
         self.first_to_give(low_reclaim, walk, last)
     }
 
-    /// The first group that has a page to give of those behind the group that was served last. The
-    /// walk begins there, however many groups come before it.
+    /// The first group with a page to evict after the group that was served last. The walk begins there,
+    /// and does not visit the groups before it.
     fn first_behind(self, low_reclaim: bool, last: Option<GroupId>) -> Option<GroupId>
         ensures { number result ≡ find (gives_by self.entry low_reclaim) (behind_last (preorder self.entry.protection.tree.now self.entry.protection.target.0) (number last)) }
     {
@@ -41,7 +41,7 @@ impl<'t, 'c, 'g> ScanControl<'t, 'c, 'g> {
         self.first_to_give(low_reclaim, rest, None)
     }
 
-    /// The first group of a walk that has a page to give. The walk ends at the group that was served
+    /// The first group of a walk that has a page to evict. The walk ends at the group that was served
     /// last.
     fn first_to_give(
         self,
@@ -63,7 +63,7 @@ impl<'t, 'c, 'g> ScanControl<'t, 'c, 'g> {
         None
     }
 
-    /// Whether the group has a page to give to the target.
+    /// Whether the target can evict a page of the group.
     fn gives(self, low_reclaim: bool, group: GroupId) -> bool
         requires live { is_live self.protection.tree.now group.0 ≡ true }
         requires under { under self.protection.tree.now self.protection.target.0 group.0 ≡ true }

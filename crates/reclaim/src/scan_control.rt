@@ -1,4 +1,4 @@
-//! What a pass of a reclaim goes by.
+//! The state that a pass of a reclaim depends on.
 
 ghost use Rattle.std.specs.Prelude.{◌≡◌, ◌≤◌, true, length};
 ghost use Rattle.machine.specs.Tree.{is_live};
@@ -6,15 +6,15 @@ ghost use Rattle.machine.specs.Tree.{is_live};
 use lru_gen::Gens;
 use protection::Protection;
 
-/// A reclaim of a target, as a pass over the groups at and below it sees it (kernel: `struct
-/// scan_control`).
+/// A reclaim of a target, as a pass over the groups at and below it depends on it (kernel:
+/// `struct scan_control`).
 #[derive(Clone, Copy)]
 pub struct ScanControl<'t, 'c, 'g> {
     /// The target, and what protects the groups below it.
     pub protection: Protection<'t, 'c>,
-    /// By group, the pages that may be taken.
+    /// The reclaimable pages, by group.
     pub gens: &'g Gens,
-    /// Whether a block in swap is free (kernel: may_swap).
+    /// Whether a swap block is free (kernel: may_swap).
     pub swap_free: bool,
     /// The target is live.
     pub ghost live: { is_live protection.tree.now protection.target.0 ≡ true },

@@ -1,4 +1,4 @@
-//! What arrived, against what was last written.
+//! Comparing what arrived with what was last written.
 
 ghost use Rattle.std.specs.Prelude.{ℕ, ◌≤◌, MatchBool, length, reverse, slice_index};
 ghost use Rattle.machine.specs.History.{Spot, HoldsLast, follow, says, fetch_of, last};
@@ -17,18 +17,19 @@ use machine::bytes::{PAGE_BYTES, PageBytes};
 use machine::entry::Entry;
 use machine::id::TicketId;
 
-/// Where the walk back for what arrived stands after an entry.
+/// How the walk back for what arrived continues after an entry.
 #[derive(Clone, Copy)]
 enum Turn {
-    /// It goes on, with the page in which the bytes stood before.
+    /// It continues with this page, which had the bytes before.
     Before(Page),
     /// All bytes that are left were zeros.
     Zeros,
-    /// A byte is another than was written.
+    /// A byte differs from what was written.
     Wrong,
 }
 
-/// Settles a byte by what was written there, unless a later write did. Whether what arrived agrees.
+/// Settles a byte by what was written there, unless a later write did. Returns whether what arrived
+/// agrees.
 fn settle_byte(
     bytes: &[u8; PAGE_BYTES],
     settled: &mut [bool; PAGE_BYTES],
@@ -45,7 +46,7 @@ fn settle_byte(
     bytes[at] == byte
 }
 
-/// Settles what the entry says of the page's bytes.
+/// Settles the page's bytes that the entry determines.
 fn settle_entry(
     entry: &Entry,
     page: Page,
@@ -67,7 +68,7 @@ fn settle_entry(
     }
 }
 
-/// Whether each byte that isn't settled is that of another page.
+/// Whether each byte that isn't settled equals that of another page.
 fn rest_agrees(
     bytes: &[u8; PAGE_BYTES],
     settled: &[bool; PAGE_BYTES],
@@ -75,7 +76,7 @@ fn rest_agrees(
 ) -> bool
     ensures { let rest = RestIs bytes.now settled.now (slice_index other.now) in MatchBool result rest (rest → ⊥) }
 {
-    // Each byte is looked at, whatever the others are, so that the compiler can take many at once.
+    // The code looks at each byte, whatever the others are, so that the compiler can process many at once.
     let mut agree = true;
     for at in 0..PAGE_BYTES {
         agree = agree & (settled[at] | (bytes[at] == other[at]));
@@ -83,7 +84,7 @@ fn rest_agrees(
     agree
 }
 
-/// Whether each byte that isn't settled is that of an arrival, or zero where there was none.
+/// Whether each byte that isn't settled equals that of an arrival, or is zero if there was none.
 fn rest_is(
     bytes: &[u8; PAGE_BYTES],
     settled: &[bool; PAGE_BYTES],
@@ -97,7 +98,7 @@ fn rest_is(
     }
 }
 
-/// Whether each byte that isn't settled is what it was at first, as far as the trace tells.
+/// Whether each byte that isn't settled is what it was at first, as far as the trace shows.
 fn rest_is_first(
     trace: &Trace,
     page: Page,
@@ -112,7 +113,7 @@ fn rest_is_first(
     }
 }
 
-/// Whether what is left to be settled was last written so before this place of the trace.
+/// Whether each byte that isn't settled is the one last written before this place of the trace.
 fn rest_is_last(
     trace: &Trace,
     end: usize,
@@ -134,7 +135,7 @@ fn rest_is_last(
     rest_is_first(trace, page, bytes, settled)
 }
 
-/// Settles what the entry wrote to the page that it reached for. Whether what arrived agrees.
+/// Settles what the entry wrote to the page that it accessed. Returns whether what arrived agrees.
 fn settle_own(entry: &Entry, bytes: &[u8; PAGE_BYTES], settled: &mut [bool; PAGE_BYTES]) -> bool
     ensures { (written earlier : ℕ → ℕ) → IsSettled bytes.now settled.old written (wrote_at (wrote entry.now.event entry.now.reply) earlier) → Settles result bytes.now settled.new written earlier }
 {

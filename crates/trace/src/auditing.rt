@@ -1,4 +1,4 @@
-//! Whether a run's arrivals brought, and its reads gave, what was last written.
+//! Whether a run's arrivals brought what was last written, and its reads returned it.
 
 ghost use Rattle.std.specs.Prelude.{◌≡◌, ◌↔◌, ◌<◌, MatchBool, IfErr, IfNone, IfSome, is_ok, true, length, reverse, slice_index_or};
 ghost use Rattle.machine.specs.History.{IsRight, IsHonest};
@@ -14,15 +14,15 @@ use machine::entry::Entry;
 use machine::event::{Event, Op};
 use machine::reply::Reply;
 
-/// The first entry of a trace that is wrong: an arrival that brought other bytes than were last written, or a read
-/// that gave another byte.
+/// The first wrong entry of a trace: an arrival that brought other bytes than were last written, or a read that
+/// returned another byte.
 #[derive(Clone, Copy, Debug, PartialEq, Eq)]
 pub struct First {
     /// Its place in the trace, counted from 1.
     pub entry: usize,
 }
 
-/// Whether an entry at this place that is a read gave the byte last written.
+/// Whether the entry at this place, if it is a read, returned the byte last written.
 fn is_right(trace: &Trace, at: usize, entry: &Entry) -> bool
     requires within { at < length trace.now.entries }
     requires own { entry.now ≡ slice_index_or trace.now.entries at entry.now }
@@ -48,7 +48,7 @@ fn is_right(trace: &Trace, at: usize, entry: &Entry) -> bool
     }
 }
 
-/// Whether an entry at this place that is an arrival brought what was last written.
+/// Whether the entry at this place, if it is an arrival, brought what was last written.
 fn is_honest(trace: &Trace, at: usize, entry: &Entry) -> bool
     requires { at < length trace.now.entries }
     ensures { let honest = IsHonest (first_of (reverse trace.now.entries)) (before trace.now.entries at) entry.now.event in MatchBool result honest (honest → ⊥) }
@@ -68,7 +68,7 @@ fn is_good(trace: &Trace, at: usize, entry: &Entry) -> bool
     is_honest(trace, at, entry) && is_right(trace, at, entry)
 }
 
-/// The first entry that is wrong, where one is.
+/// The first wrong entry, if there is one.
 fn first_wrong(trace: &Trace) -> Option<First>
     ensures none { IfNone result (Passes (first_of (reverse trace.now.entries)) (reverse trace.now.entries)) }
     ensures some { IfSome result (λ first. IsFirstWrong trace.now.entries first.entry) }
@@ -81,9 +81,9 @@ fn first_wrong(trace: &Trace) -> Option<First>
     None
 }
 
-/// Whether each page that arrived brought the bytes last written to it when its read-in began, and each read gave
-/// the byte last written before it. Memory begins as zeros, and a page of a file as its first arrival in the trace
-/// brought it. The error is the first entry of which that is not so. It takes no memory.
+/// Whether each page that arrived brought the bytes last written to it when its read-in began, and each read
+/// returned the byte last written before it. Memory begins as zeros, and a page of a file as its first arrival in
+/// the trace brought it. The error is the first wrong entry. Allocates no memory.
 pub fn audit(trace: &Trace) -> Result<(), First>
     ensures exactly { let history = reverse trace.now.entries in is_ok result ≡ true ↔ Passes (first_of history) history }
     ensures first { IfErr result (λ first. IsFirstWrong trace.now.entries first.entry) }

@@ -1,4 +1,4 @@
-//! What one entry says of a page.
+//! What one entry determines of a page.
 
 ghost use Rattle.std.specs.Prelude.{◌≡◌, ℕ, ◌&&◌, ◌==◌};
 ghost use Rattle.machine.specs.History.{says};
@@ -10,14 +10,14 @@ use machine::event::{Event, Op, Place};
 use machine::id::{GroupId, TaskId};
 use machine::reply::Reply;
 
-/// What an entry says of a page.
+/// What an entry determines of a page.
 #[derive(Clone, Copy)]
 pub enum Effect {
     /// One byte was written.
     Byte { offset: u32, byte: u8 },
-    /// All its bytes are zero from then on.
+    /// All its bytes are zeros from then on.
     Zeros,
-    /// It is what another page was.
+    /// It gets the bytes of another page.
     As(Page),
     Nothing,
 }
@@ -34,7 +34,7 @@ pub fn is_ok(reply: &Reply) -> bool
     matches!(reply, Reply::Ok)
 }
 
-/// Whether a task's access of the place reaches into the page.
+/// Whether a task's access of the place is in the page.
 fn is_place_of(page: Page, task: TaskId, place: Place) -> bool
     ensures { result ≡ is_place_of page task.0 place }
 {
@@ -54,7 +54,7 @@ fn is_place_of(page: Page, task: TaskId, place: Place) -> bool
     }
 }
 
-/// Whether it is a page of the task's memory.
+/// Whether this is a page of the task's memory.
 fn is_memory_of(page: Page, task: TaskId) -> bool
     ensures { result ≡ is_memory_of page task.0 }
 {
@@ -67,7 +67,7 @@ fn is_memory_of(page: Page, task: TaskId) -> bool
     }
 }
 
-/// Whether it is this virtual page of the task.
+/// Whether this is this virtual page of the task.
 fn is_page_of_task(page: Page, task: TaskId, number: u32) -> bool
     ensures { result ≡ is_page_of_task page task.0 number }
 {
@@ -77,7 +77,7 @@ fn is_page_of_task(page: Page, task: TaskId, number: u32) -> bool
     }
 }
 
-/// The page of the same number in another task's memory.
+/// The page with the same number in another task's memory.
 fn page_in(page: Page, task: TaskId) -> Page
     ensures { result ≡ page_in page task }
 {
@@ -126,8 +126,8 @@ fn freed(reply: &Reply, page: Page, task: TaskId, number: u32) -> Effect
     Effect::Nothing
 }
 
-/// What the entry says of the page. A write says its byte, to whoever reads a file's page; a task begins
-/// with zeros, and a child with its parent's bytes; a page that is freed is zeros.
+/// What the entry determines of the page. A write determines its byte, for all readers of a file's page.
+/// A task begins with zeros, and a child with its parent's bytes. A freed page is zeros.
 pub fn effect_of(entry: &Entry, page: Page) -> Effect
     ensures { (o : ℕ) → says entry.now.event entry.now.reply (spot_in page o) ≡ said result o }
 {

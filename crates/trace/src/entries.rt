@@ -19,19 +19,19 @@ use machine::id::{TaskId, TicketId};
 use std::alloc::{AllocError, Global};
 use std::marker::Model;
 
-/// The trace of a machine: the entries of what was asked and answered, the oldest first. Beside each access is
-/// kept which entry says what its page held before it, so that an audit need not look for it.
+/// The trace of a machine: its events and replies in entries, the oldest first. For each access the trace also keeps
+/// which entry determines its page before it, so an audit need not search for that entry.
 ///
-/// A contract sees the list of entries and how many there may be. All memory but that for tasks comes from the
-/// opening: for each entry that there may be its room and 8 bytes, and 16 bytes for each page of a file.
+/// A contract sees the list of entries and the most entries that are allowed. All memory except that for tasks is
+/// allocated at the opening. Each allowed entry takes its room and 8 bytes, and each page of a file takes 16 bytes.
 #[derive(Drop)]
 pub struct Trace {
     entries: Vec<Entry>,
-    /// By an entry's place, counted from 0, its link.
+    /// By an entry's place, counted from 0: its link.
     links: Vec<Link>,
-    /// What the next entry's link would be, by the page that it reaches for.
+    /// By page: the link that the next entry would have if it accessed the page.
     heads: Heads,
-    /// By file's number and page, what is known of its first arrival.
+    /// By file's number and page: what is known of its first arrival.
     arrivals: Vec<Row>,
     limit: usize,
 }
@@ -48,7 +48,7 @@ impl Model for Trace {
     ghost invariant = { IsTrace };
 }
 
-/// What is known of the page that the entry's access reaches for.
+/// What is known of the page that the entry accesses.
 fn link_of(heads: &Heads, entry: &Entry) -> Link
     ensures { result ≡ link_for (known_in heads.now) (accessed entry.now.event) }
 {
@@ -59,8 +59,8 @@ fn link_of(heads: &Heads, entry: &Entry) -> Link
 }
 
 impl Trace {
-    /// A trace without entries, with room for so many: at most 1,048,576. The files' sizes are in pages, by
-    /// file's number. The error is that there is no memory.
+    /// A trace without entries, with room for this many: at most 1,048,576. The files' sizes are in pages, by file's
+    /// number. Fails if memory runs out.
     pub fn open(alloc: Global, limit: usize, files: &[u32]) -> Result<Trace, AllocError>
         requires { limit ≤ 1048576 }
         ensures { IfOk result (λ t. t ≡ record { entries = []; limit = limit }) }
@@ -78,25 +78,25 @@ impl Trace {
         })
     }
 
-    /// Asks for the memory for a task's links, 8 KiB, before the entry comes that makes the task. The trace
-    /// stays the same, also where the error says that there is no memory. It only saves time: without it an audit
-    /// may walk back through all entries for each read of the task's memory. What was known of an earlier task
-    /// of this number is forgotten.
+    /// Reserves the memory for a task's links, 8 KiB, before the push of the entry that makes the task. The trace does
+    /// not change, even if the call fails because memory ran out. The call only saves time: without it an audit may
+    /// walk back through all entries for each read of the task's memory. What was known of an earlier task with this
+    /// number is forgotten.
     pub fn reserve(&mut self, task: TaskId) -> Result<(), AllocError>
         ensures { self.new ≡ self.old }
     {
         self.heads.reserve(task)
     }
 
-    /// Gives back the memory for the links of a task that has ended otherwise than by an entry that names it: a kill of
-    /// a group names its victim alone. The trace stays the same.
+    /// Frees the memory for the links of a task that has ended, if no entry names it: the entry of a group kill names
+    /// only the victim. The trace does not change.
     pub fn release(&mut self, task: TaskId)
         ensures { self.new ≡ self.old }
     {
         self.heads.ended(task);
     }
 
-    /// One entry more, at the end. It takes no memory.
+    /// Adds an entry at the end. Allocates no memory.
     pub fn push(&mut self, entry: Entry)
         requires { length self.old.entries < self.old.limit }
         ensures { self.new ≡ record self.old { entries = self.old.entries ++ entry ∷ [] } }
@@ -115,7 +115,7 @@ impl Trace {
         self.entries.len()
     }
 
-    /// How many entries there may be.
+    /// The most entries that are allowed.
     pub fn limit(&self) -> usize
         ensures { result ≡ self.now.limit }
     {
@@ -129,7 +129,7 @@ impl Trace {
         self.entries.as_slice()
     }
 
-    /// The entries alone, the oldest first.
+    /// Returns only the entries, the oldest first.
     pub fn into_entries(self) -> Vec<Entry>
         ensures { result.items ≡ self.entries }
     {
@@ -159,7 +159,7 @@ impl Trace {
         self.links[at]
     }
 
-    /// What the first arrival of this page of the file brought, in the whole trace.
+    /// What the first arrival of this page of the file in the whole trace brought.
     pub(crate) fn first_arrival(&self, file: u32, page: u32) -> Option<&PageBytes>
         ensures { bytes_of result ≡ first_arrival file page (reverse self.now.entries) }
     {

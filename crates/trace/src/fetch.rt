@@ -12,14 +12,14 @@ use machine::event::{Event, Place};
 use machine::id::{TaskId, TicketId};
 use machine::reply::Reply;
 
-/// An access that began a read-in, as its task and the place that it went to.
+/// An access that began to read a page in: its task and its place.
 #[derive(Clone, Copy)]
 pub struct Access {
     pub task: TaskId,
     pub place: Place,
 }
 
-/// A read-in: the place of its first entry in the trace, from 0, and the access.
+/// A read-in: the place in the trace of its first entry, counted from 0, and the access.
 #[derive(Clone, Copy)]
 pub struct ReadIn {
     pub at: usize,

@@ -1,4 +1,4 @@
-//! The first arrivals of files' pages: what files had before the run, as far as the trace tells.
+//! The first arrivals of files' pages: what files contained before the run, as far as the trace shows.
 
 ghost use Rattle.std.specs.Prelude.{◌≡◌, ℕ, ◌==◌, ◌&&◌, ◌<◌, ◌≤◌, if◌then◌else◌, List, length, reverse, Some, None};
 ghost use Rattle.machine.specs.History.{fetch_of, spot_of};
@@ -61,7 +61,7 @@ fn brought_by<'a>(
     }
 }
 
-/// What the first arrival of this page of the file brought, in the whole trace.
+/// What the first arrival of this page of the file in the whole trace brought.
 fn first_arrival(entries: &[Entry], file: u32, page: u32) -> Option<&PageBytes>
     ensures { bytes_of result ≡ first_arrival file page (reverse entries.now) }
 {
@@ -73,7 +73,7 @@ fn first_arrival(entries: &[Entry], file: u32, page: u32) -> Option<&PageBytes>
     None
 }
 
-/// A byte of what arrived, or zero where nothing did.
+/// A byte of what arrived, or zero if nothing did.
 pub fn byte_or_zero(arrived: Option<&PageBytes>, offset: u32) -> u8
     ensures { result ≡ byte_or_zero (bytes_of arrived.entry) offset }
 {
@@ -96,7 +96,7 @@ fn brought(entry: &Entry) -> Option<&PageBytes>
     }
 }
 
-/// What the first arrival of this page of the file brought, by what is known of it.
+/// What the first arrival of this page of the file brought, found by what is known of it.
 pub fn known_arrival<'a>(
     entries: &'a [Entry],
     arrivals: &[Row],
@@ -113,7 +113,7 @@ pub fn known_arrival<'a>(
     }
 }
 
-/// Notes that a page of a file arrived by the entry at this place, where none did before.
+/// Notes that a page of a file arrived by the entry at this place, if none is noted.
 fn note_first(rows: &mut [Row], file: u32, page: u32, at: u32)
     ensures { (f q : ℕ) → (bytes : List ℕ) → MayBe (link_in rows.new f q) (arrival_after (if ((file == f) && (page == q)) then Some bytes else None) at (link_in rows.old f q)) }
 {
@@ -124,7 +124,7 @@ fn note_first(rows: &mut [Row], file: u32, page: u32, at: u32)
     }
 }
 
-/// Notes that the page that this access began to read in arrived, where it is a file's.
+/// Notes that the page that this access began to read in arrived, if it is a file's.
 fn note_page(rows: &mut [Row], access: Access, at: u32)
     ensures { (f q : ℕ) → (bytes : List ℕ) → MayBe (link_in rows.new f q) (arrival_after (if is_of_file f q (spot_of access.task.0 access.place) then Some bytes else None) at (link_in rows.old f q)) }
 {
@@ -134,7 +134,7 @@ fn note_page(rows: &mut [Row], access: Access, at: u32)
     }
 }
 
-/// Notes that what began to be read in under the ticket arrived by the next entry.
+/// Notes that the page being read in under the ticket arrived by the next entry.
 fn note_read_in(rows: &mut [Row], entries: &[Entry], ticket: TicketId)
     requires { length entries.now < 1048576 }
     ensures { (f q : ℕ) → (bytes : List ℕ) → MayBe (link_in rows.new f q) (arrival_after (brought_by f q (Event.Arrived ticket bytes) (reverse entries.now)) (length entries.now) (link_in rows.old f q)) }
@@ -145,7 +145,7 @@ fn note_read_in(rows: &mut [Row], entries: &[Entry], ticket: TicketId)
     }
 }
 
-/// Notes what the entry, which comes to stand at the end, brings first.
+/// Notes the first arrival in the entry, which is pushed next, if it has one.
 pub fn note_arrival(rows: &mut Vec<Row>, entries: &[Entry], entry: &Entry)
     requires { length entries.now < 1048576 }
     ensures { (f q : ℕ) → MayBe (link_in rows.new.items f q) (arrival_after (brought_by f q entry.now.event (reverse entries.now)) (length entries.now) (link_in rows.old.items f q)) }

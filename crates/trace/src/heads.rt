@@ -18,13 +18,13 @@ use machine::reply::Reply;
 use std::alloc::{AllocError, Global};
 use std::mem;
 
-/// By page what is known of its bytes after the newest entry.
+/// By page: what is known of its bytes after the newest entry.
 #[derive(Drop)]
 pub struct Heads {
     pub alloc: Global,
-    /// By task's number its virtual pages. A number for which there is no memory has a row without room.
+    /// By task's number: its virtual pages. A number without memory has a row without room.
     pub tasks: Vec<Row>,
-    /// By file's number its pages.
+    /// By file's number: its pages.
     pub files: Vec<Row>,
 }
 
@@ -39,7 +39,7 @@ pub fn link_in(rows: &[Row], row: u32, page: u32) -> Link
     Link::Unknown
 }
 
-/// Writes one place of a table, where it has it.
+/// Writes one place of a table, if the table has it.
 pub fn set_link(rows: &mut [Row], row: u32, page: u32, link: Link)
     ensures { (r c : ℕ) → MayBe (link_in rows.new r c) (if ((row == r) && (page == c)) then link else link_in rows.old r c) }
 {
@@ -49,7 +49,7 @@ pub fn set_link(rows: &mut [Row], row: u32, page: u32, link: Link)
     }
 }
 
-/// Writes a row of a table, where it has it.
+/// Fills a row of a table, if the table has it.
 fn fill_row(rows: &mut [Row], row: u32, link: Link)
     ensures { (r c : ℕ) → MayBe (link_in rows.new r c) (if row == r then link else link_in rows.old r c) }
 {
@@ -59,7 +59,7 @@ fn fill_row(rows: &mut [Row], row: u32, link: Link)
     }
 }
 
-/// A row by one of a table. Where the table has it not, nothing is known.
+/// Fills a row with a copy of one in a table. If the table does not have that one, nothing is known.
 fn row_by(rows: &[Row], from: usize, row: Row) -> Row
     ensures { (c : ℕ) → MayBe (at_row result c) (link_in rows.now from c) }
 {
@@ -72,7 +72,7 @@ fn row_by(rows: &[Row], from: usize, row: Row) -> Row
     row
 }
 
-/// A row of a table by another, where it has it.
+/// Copies one row of a table to another, if the table has the other.
 fn copy_row(alloc: Global, rows: &mut [Row], from: u32, to: u32)
     ensures { (r c : ℕ) → MayBe (link_in rows.new r c) (if to == r then link_in rows.old from c else link_in rows.old r c) }
 {
@@ -96,7 +96,7 @@ pub fn rows_of(alloc: Global, files: &[u32]) -> Result<Vec<Row>, AllocError>
     Ok(rows)
 }
 
-/// A row in the place of another, which knows nothing more.
+/// Replaces a row by another, which knows nothing more.
 fn put_row(rows: &mut [Row], row: u32, now: Row)
     requires { (c : ℕ) → MayBe (at_row now c) Link.Unknown }
     ensures { (r c : ℕ) → MayBe (link_in rows.new r c) (link_in rows.old r c) }
@@ -107,7 +107,7 @@ fn put_row(rows: &mut [Row], row: u32, now: Row)
     }
 }
 
-/// Rows up to this number, those that are new without room.
+/// Adds rows without room, up to this number.
 fn extend(rows: &mut Vec<Row>, alloc: Global, count: usize) -> Result<(), AllocError>
     ensures { (r c : ℕ) → MayBe (link_in rows.new.items r c) (link_in rows.old.items r c) }
 {
@@ -118,7 +118,7 @@ fn extend(rows: &mut Vec<Row>, alloc: Global, count: usize) -> Result<(), AllocE
 }
 
 impl Heads {
-    /// No entry: what is known of each page of these files is that it has its bytes at first. No task has memory.
+    /// No entry: each page of these files is known to have its first bytes. No task has memory.
     pub fn open(alloc: Global, files: &[u32]) -> Result<Heads, AllocError>
         ensures { IfOk result (λ heads. (p : PageOf) → MayBe (known_in heads p) Link.First) }
     {
@@ -129,7 +129,7 @@ impl Heads {
         })
     }
 
-    /// Memory for a task's pages. Nothing is known of them.
+    /// Allocates memory for a task's pages. Nothing is known of them.
     pub fn reserve(&mut self, task: TaskId) -> Result<(), AllocError>
         ensures { (p : PageOf) → MayBe (known_in self.new p) (known_in self.old p) }
     {
@@ -139,7 +139,7 @@ impl Heads {
         Ok(())
     }
 
-    /// The memory of a task's pages goes.
+    /// Frees the memory of a task's pages.
     pub fn ended(&mut self, task: TaskId)
         ensures { (p : PageOf) → MayBe (known_in self.new p) (known_in self.old p) }
     {
@@ -205,7 +205,7 @@ impl Heads {
         }
     }
 
-    /// What is known after an entry that comes to stand at this place of the trace.
+    /// Updates what is known by an entry, whose place in the trace is this one.
     pub fn note(&mut self, entry: &Entry, at: u32)
         ensures { (p : PageOf) → MayBe (known_in self.new p) (link_after entry.now.event entry.now.reply at (known_in self.old) p) }
     {

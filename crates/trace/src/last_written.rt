@@ -15,7 +15,7 @@ use crate::page::Page;
 use crate::step::{Back, Stand, step_back};
 use machine::entry::Entry;
 
-/// What an entry tells of a byte: it, or the page in which it stood before the entry.
+/// What an entry shows of a byte: its value, or the page that had it before the entry.
 #[derive(Clone, Copy)]
 enum Seen {
     Byte(u8),
@@ -41,7 +41,7 @@ fn look(entry: &Entry, page: Page, offset: u32) -> Seen
     }
 }
 
-/// The byte at first, as far as the trace tells.
+/// The byte at first, as far as the trace shows.
 fn first_byte(trace: &Trace, page: Page, offset: u32) -> u8
     ensures { result ≡ first_of (reverse trace.now.entries) (spot_in page offset) }
 {
@@ -66,7 +66,7 @@ fn last(trace: &Trace, end: usize, page: Page, offset: u32) -> u8
     first_byte(trace, page, offset)
 }
 
-/// The byte that the entry wrote at this offset of the page that it reached for.
+/// The byte that the entry wrote at this offset of the page that it accessed.
 fn written_at(entry: &Entry, offset: u32) -> Option<u8>
     ensures { (earlier : ℕ → ℕ) → wrote_at (wrote entry.now.event entry.now.reply) earlier offset ≡ or_some result (earlier offset) }
 {

@@ -1,10 +1,9 @@
-//! The trace of a machine: the entries of what was asked and answered, and the audit that finds the first that is
-//! wrong.
+//! The trace of a machine: its events and replies in entries, and the audit that finds the first wrong entry.
 //!
-//! An audit asks of each read, and of each byte that arrived from the device, what was last written there. To look for
-//! it entry by entry would take a walk through the trace for each. So beside each access stands a link to the entry
-//! that says what its page held before, and a walk meets the writes to one page alone. A link is 8 bytes. The memory
-//! for it comes from the opening, as the entry's does.
+//! For each read, and for each byte that arrived from the device, an audit checks what was last written there. A
+//! search entry by entry would walk through the trace for each of them. Each access therefore has a link to the entry
+//! that determines its page before it, and a walk visits only the writes to one page. A link is 8 bytes. The memory
+//! for it is allocated at the opening, as the entry's is.
 #![tactic(auto)]
 
 pub use auditing::{First, audit};

@@ -12,11 +12,11 @@ use std::mem::size_of;
 /// What is known of the bytes of a page before an entry.
 #[derive(Clone, Copy)]
 pub enum Link {
-    /// Nothing.
+    /// Nothing is known.
     Unknown,
-    /// They are those at first.
+    /// They are the first bytes.
     First,
-    /// They are those that the page of this entry's access had after it.
+    /// They are the bytes of this entry's page after its access.
     After(u32),
 }
 
@@ -29,7 +29,7 @@ pub struct Written {
     pub byte: u8,
 }
 
-/// The page that the entry's access reached for.
+/// The page that the entry accessed.
 pub fn accessed(entry: &Entry) -> Option<Page>
     ensures { result ≡ accessed entry.now.event }
 {
@@ -39,7 +39,7 @@ pub fn accessed(entry: &Entry) -> Option<Page>
     }
 }
 
-/// The byte that the entry wrote to the page that it reached for.
+/// The byte that the entry wrote to the page that it accessed.
 pub fn wrote(entry: &Entry) -> Option<Written>
     ensures { result ≡ wrote entry.now.event entry.now.reply }
 {

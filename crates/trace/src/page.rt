@@ -1,4 +1,4 @@
-//! Pages, as bytes stand in them.
+//! Pages, and the places of bytes in them.
 
 ghost use Rattle.std.specs.Prelude.{◌≡◌, ℕ};
 ghost use Rattle.machine.specs.History.{spot_of, at_offset};
@@ -14,7 +14,7 @@ pub enum Page {
     File { file: u32, page: u32 },
 }
 
-/// The page in which a place stands, as this task reaches it.
+/// The page that contains a place, for an access by this task.
 pub fn page_of(task: TaskId, place: Place) -> Page
     ensures page { result ≡ page_at task place }
     ensures spot { spot_of task.0 place ≡ spot_in result (offset_in place) }
@@ -30,7 +30,7 @@ pub fn page_of(task: TaskId, place: Place) -> Page
     }
 }
 
-/// Where in its page a place stands.
+/// The offset of a place in its page.
 pub fn offset_of(place: Place) -> u32
     ensures { result ≡ offset_in place }
 {

@@ -9,14 +9,14 @@ use std::alloc::{AllocError, Global};
 use std::marker::Model;
 use std::mem::size_of;
 
-/// By page what is known. The first pages have links of their own, up to the furthest that was set; of all pages
-/// behind them the same is known. So no link is written when a row is made or filled, and a copy is of the written
-/// links alone. A row without room takes no memory.
+/// What is known, by page. The first pages have their own links, up to the last page that was set. All pages after
+/// them share one link. Making or filling a row therefore writes no link, and a copy copies only the written links.
+/// A row without room takes no memory.
 #[derive(Drop)]
 pub struct Row {
-    /// By page, up to the furthest that was set.
+    /// By page, up to the last that was set.
     links: Vec<Link>,
-    /// What is known of each page behind these.
+    /// What is known of each page after these.
     rest: Link,
 }
 
@@ -41,7 +41,7 @@ impl Row {
         }
     }
 
-    /// Room for the links of so many pages. The same is known of all.
+    /// A row with room for the links of this many pages. The same is known of all.
     pub fn with_room(alloc: Global, pages: usize, link: Link) -> Result<Row, AllocError>
         ensures { IfOk result (λ r. (c : ℕ) → at_row r c ≡ link) }
     {
@@ -61,8 +61,8 @@ impl Row {
         self.rest
     }
 
-    /// This is known of a page from now on. Where there is no room for its link, nothing is known any more of the
-    /// pages that have none. It takes no memory.
+    /// Sets what is known of a page. If there is no room for its link, nothing is known any more of the pages
+    /// without one. Allocates no memory.
     pub fn set(&mut self, page: usize, link: Link)
         ensures { (c : ℕ) → MayBe (at_row self.new c) (if page == c then link else at_row self.old c) }
     {
@@ -75,7 +75,7 @@ impl Row {
         }
     }
 
-    /// This is known of all pages from now on.
+    /// Sets what is known of all pages.
     pub fn fill(&mut self, link: Link)
         ensures { (c : ℕ) → at_row self.new c ≡ link }
     {
@@ -83,8 +83,8 @@ impl Row {
         self.rest = link;
     }
 
-    /// Of each page is known from now on what another row knows of it. Where there is no room for that row's links,
-    /// nothing is known of any. It takes no memory.
+    /// Copies what another row knows of each page. If there is no room for that row's links, nothing is known of
+    /// any page. Allocates no memory.
     pub fn copy(&mut self, other: &Row)
         ensures { (c : ℕ) → MayBe (at_row self.new c) (at_row other.now c) }
     {

@@ -23,7 +23,7 @@ pub enum Back {
     Unknown,
     /// To the bytes at first.
     First,
-    /// To an access that may have written, and to its page before it.
+    /// To an access that may have written, and to its page before that access.
     Entry(Stand),
 }
 
