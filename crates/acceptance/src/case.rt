@@ -31,7 +31,7 @@ pub fn prints<R: Abort + AllocGlobal>(rt: &R, name: &str, script: &str, out: &st
     ends(rt, name, Options::default(), script.as_bytes(), out, "", 0);
 }
 
-/// The same where a line takes so many turns at most.
+/// The same if a line takes at most this number of turns.
 pub fn prints_in_turns<R: Abort + AllocGlobal>(
     rt: &R,
     name: &str,
@@ -46,7 +46,7 @@ pub fn prints_in_turns<R: Abort + AllocGlobal>(
     ends(rt, name, options, script.as_bytes(), out, "", 0);
 }
 
-/// The script has a faulty line: this line alone goes to the standard error, and nothing is run.
+/// The script has a faulty line. Only this line is written to standard error, and nothing is run.
 pub fn faults<R: Abort + AllocGlobal>(rt: &R, name: &str, script: &str, line: &str) {
     faults_in_bytes(rt, name, script.as_bytes(), line);
 }
@@ -56,8 +56,8 @@ pub fn faults_in_bytes<R: Abort + AllocGlobal>(rt: &R, name: &str, script: &[u8]
     ends(rt, name, Options::default(), script, "", line, 1);
 }
 
-/// The script has a faulty line, and it is asked for more of the fault: these lines go to the standard
-/// error. There its file is called `case`.
+/// The script has a faulty line, and the caller asks for more about the fault. These lines are written to standard
+/// error. They call the script's file `case`.
 pub fn explains<R: Abort + AllocGlobal>(rt: &R, name: &str, script: &[u8], lines: &str) {
     let options = Options {
         explain: true,
@@ -66,7 +66,8 @@ pub fn explains<R: Abort + AllocGlobal>(rt: &R, name: &str, script: &[u8], lines
     ends(rt, name, options, script, "", lines, 1);
 }
 
-/// The script runs and prints this, and it is asked why lines are refused: these lines go to the standard error.
+/// The script runs and prints this, and the caller asks why lines are refused. These lines are written to standard
+/// error.
 pub fn explains_refusals<R: Abort + AllocGlobal>(
     rt: &R,
     name: &str,

@@ -1,4 +1,4 @@
-//! Charts: what is drawn and listed of a run, worked out by hand.
+//! Charts: the picture and the table of a run, worked out by hand.
 
 use std::process::Abort;
 use std::str;
@@ -8,7 +8,7 @@ use subcommands::{Drawing, Options, chart};
 const KILLED: &str =
     "group /a\nset /a memory.max 8K\ntask 1 /a\n1 write 0 0 1\n1 write 1 0 1\n1 write 2 0 1\n";
 
-/// What a script is drawn as, which can be run.
+/// The chart of a script that can be run.
 fn drawn<R: Abort + AllocGlobal>(rt: &R, kind: Drawing, title: &str, script: &str) -> Vec<u8> {
     let mut out = Vec::new(rt.alloc());
     let options = Options::default();
@@ -37,10 +37,10 @@ line,group,current,anon,file,max,min,low,refused,oom,oom_kill
 6,/a,0,0,0,8192,0,0,1,1,1
 ";
     assert_eq!(rt; str::from_utf8(&out), Ok(table));
-    // A group that is made anew goes on where it stands.
+    // The lines of a group that is made again continue in the same place.
     let script = "group /a\ntask 1 /a\n1 write 0 0 1\n1 exit\nrmdir /a\ngroup /a\n";
     let out = drawn(&rt, Drawing::Table, "", script);
-    // Behind line 5 no group has the path.
+    // After line 5 no group has the path.
     let table = "\
 line,group,current,anon,file,max,min,low,refused,oom,oom_kill
 1,/a,0,0,0,max,0,0,0,0,0
@@ -57,7 +57,7 @@ fn a_picture_has_the_curve_the_marks_and_a_max_that_is_near(rt: HostRuntime) {
     let out = drawn(&rt, Drawing::Picture, "a<b", KILLED);
     let text = str::from_utf8(&out).unwrap_or("");
     assert!(rt; text.contains(">memory.current: a&lt;b</text>"));
-    // Six lines stand 174 pixels apart between 70 and 940; two pages are 300 pixels high, from 360 up to 60.
+    // Six lines are 174 pixels apart between 70 and 940. Two pages are 300 pixels high, from 360 up to 60.
     let curve = "\"M70.0 360.0V360.0H592.0V210.0H766.0V60.0H940.0V360.0H940.0\"";
     assert!(rt; text.contains(curve), "{text}");
     assert!(rt; text.contains("<title>line 6: task 1 was killed</title>"));
@@ -65,7 +65,7 @@ fn a_picture_has_the_curve_the_marks_and_a_max_that_is_near(rt: HostRuntime) {
     assert!(rt; text.contains(refused));
     assert!(rt; text.contains("/a, peak 8K"));
     assert!(rt; text.starts_with("<svg ") && text.ends_with("</svg>\n"));
-    // Of a max of 1G nothing is drawn, where no more than a page is charged.
+    // A max of 1G is not drawn if no more than a page is charged.
     let script = "group /a\nset /a memory.max 1G\ntask 1 /a\n1 write 0 0 1\n";
     let out = drawn(&rt, Drawing::Picture, "", script);
     let text = str::from_utf8(&out).unwrap_or("");
@@ -73,7 +73,7 @@ fn a_picture_has_the_curve_the_marks_and_a_max_that_is_near(rt: HostRuntime) {
     assert!(rt; !text.contains("stroke-dasharray=\"8 4\""), "{text}");
 }
 
-// The low is drawn as the max and the min are, each in dashes of its own, and listed behind them.
+// The low is drawn as the max and the min are, each in dashes of its own, and is listed after them.
 #[test]
 fn a_low_is_drawn_and_listed(rt: HostRuntime) {
     let script =
@@ -91,7 +91,7 @@ line,group,current,anon,file,max,min,low,refused,oom,oom_kill
     assert_eq!(rt; str::from_utf8(&out), Ok(table));
     let out = drawn(&rt, Drawing::Picture, "", script);
     let text = str::from_utf8(&out).unwrap_or("");
-    // From line 3 on the low stands at two pages, 300 pixels high; no min is there to be drawn.
+    // From line 3 on the low is at two pages, 300 pixels high. There is no min to be drawn.
     let low = "d=\"M244.0 60.0V60.0H940.0\"";
     assert!(rt; text.contains("stroke-dasharray=\"8 3 2 3\""), "{text}");
     assert!(rt; text.contains(low), "{text}");

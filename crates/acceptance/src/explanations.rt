@@ -1,4 +1,4 @@
-//! What more is said of a fault, and why lines are refused, of scripts that no file of cases can have.
+//! What else is said of a fault, and why lines are refused, for scripts that no file of cases can have.
 
 use crate::case::{explains, explains_refusals};
 

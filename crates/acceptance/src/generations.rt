@@ -1,4 +1,4 @@
-//! Many pages of one group, of which some are used: those stay.
+//! Many pages of one group, some of which are used. Those stay in their frames.
 
 use crate::case::{numbered, prints};
 use std::test::Fail;
@@ -13,7 +13,7 @@ task 2 /a
 task 3 /a
 ";
 
-// Of the first ten pages each is used, and then 600 are taken: those of task 1 from the 11th to the 610th.
+// Each of the first ten pages is used. Then 600 are evicted: those of task 1 from the 11th to the 610th.
 #[test]
 fn of_three_thousand_pages_the_first_go_that_were_not_used(rt: HostRuntime) -> Result<(), Fail> {
     let alloc = rt.alloc();
@@ -34,7 +34,7 @@ fn of_three_thousand_pages_the_first_go_that_were_not_used(rt: HostRuntime) -> R
     Ok(())
 }
 
-// All are used, so that none is left that was not. Then 300 are taken, from the first on.
+// All are used, so that none is left that was not. Then 300 are evicted, from the first on.
 #[test]
 fn of_three_thousand_pages_that_were_all_used_the_first_go(rt: HostRuntime) -> Result<(), Fail> {
     let alloc = rt.alloc();

@@ -1,6 +1,7 @@
-//! Scripts that no line of a file of cases can say, or that are very long, with what the program must
-//! write for them, run through its public functions; charts; and the shares of small trees, held against
-//! their rule. A script that can be written down is a case of the crate `cases`: add it there.
+//! Tests of scripts that no line of a file of cases can say, or that are very long. Each is run through the program's
+//! public functions, and compared with what the program must write for it. There are also tests of charts, and of the
+//! shares of small trees, which are compared with their rule. A script that can be written down is a case of the crate
+//! `cases`: add it there.
 //!
 //! What a test expects comes from the rules, never from a run.
 #![tactic(auto)]

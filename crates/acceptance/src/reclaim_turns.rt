@@ -1,5 +1,5 @@
-//! How many turns a line takes at most, where the caller says it. A page is taken in one turn, written in the
-//! next, and has left after the third. One turn more ends the command.
+//! How many turns a line takes at most, if the caller sets it. In the first turn a page is chosen, in the second it is
+//! written, and after the third it has left. Another turn ends the command.
 
 use crate::case::{numbered, prints_in_turns};
 use std::test::Fail;
@@ -19,7 +19,7 @@ begin cat /a memory.current
 finish control
 "
     )?;
-    // Three turns for each page, and one that finds the end. The page whose transfer is open is charged still.
+    // Three turns for each page, and one that finds the end. The page whose transfer is open is still charged.
     prints_in_turns(&rt, "all of them", 1003, &script, "0\n");
     prints_in_turns(
         &rt,

@@ -1,10 +1,9 @@
-//! Groups that are removed, more of them than there may be at once.
+//! Groups that are removed. There are more of them than there may be at one time.
 
 use crate::case::{numbered, prints};
 use std::test::Fail;
 
-// More groups than may be live at once have the path one after the other, and each leaves a page to the
-// parent.
+// More groups than may be live at one time have the path, one after the other. Each leaves a page to the parent.
 #[test]
 fn a_path_is_made_again_300_times(rt: HostRuntime) -> Result<(), Fail> {
     let alloc = rt.alloc();

@@ -1,4 +1,5 @@
-//! Scripts that are not run, for the first line that has a fault: those with bytes that no line of a file of cases has.
+//! Scripts that are not run because of their first line with a fault: those with bytes that no line of a file of cases
+//! has.
 
 use crate::case::{faults, faults_in_bytes, prints};
 use std::alloc::{AllocError, Global};
@@ -106,8 +107,8 @@ fn not_text(rt: HostRuntime) {
     );
 }
 
-// What the script of this byte alone is refused for. A line feed, a space and a tab make no word, and
-// a `#` begins a comment.
+// The fault for which the script of this byte alone is refused. A line feed, a space and a tab make no word, and a `#`
+// begins a comment.
 fn fault_of_byte(byte: u8) -> Option<&'static str> {
     match byte {
         b'\n' | b' ' | b'\t' | b'#' => None,
@@ -134,7 +135,7 @@ fn each_byte_alone_is_a_script(rt: HostRuntime) -> Result<(), Fail> {
     Ok(())
 }
 
-// Lines of each kind, and what the script of them all is refused for where this one is not text.
+// Lines of each kind, and the fault of the script of them all if this one is not text.
 const LINES: [(&str, &str); 6] = [
     ("frames 4", "line 1: not text\n"),
     ("group /a", "line 2: not text\n"),
@@ -164,7 +165,7 @@ fn with_byte(alloc: Global, changed: &str, at: usize, byte: u8) -> Result<Vec<u8
     Ok(script)
 }
 
-// A byte that only goes on with a character, one that only begins one, and one that no character has.
+// A byte that only continues a character, one that only begins one, and one that no character has.
 fn replaces_each_byte<R: Abort + AllocGlobal>(
     rt: &R,
     line: &str,

@@ -1,5 +1,5 @@
-//! Effective mins in many small trees, with recursive protection and without, held against the rule written down
-//! once more. The groups are `/p`, below it `/p/a` and `/p/b`, and `/p/a/c`.
+//! Effective mins in many small trees, with recursive protection and without. They are compared with the rule, which is
+//! written here a second time. The groups are `/p`, below it `/p/a` and `/p/b`, and `/p/a/c`.
 
 use crate::case::{numbered, prints};
 use std::alloc::{AllocError, Global};
@@ -15,7 +15,7 @@ struct Numbers {
     c: u128,
 }
 
-/// What there is to share below a group: its effective min, what it uses, and what its children ask for together.
+/// What there is to share below a group: its effective min, its usage, and what its children claim together.
 #[derive(Clone, Copy)]
 struct Parent {
     min: u128,
@@ -23,7 +23,7 @@ struct Parent {
     asked: u128,
 }
 
-/// What a child has of it that uses so much, and asks for `own` of that.
+/// The share of a child that uses `uses` and claims `own` of that.
 fn share(recursive: bool, parent: Parent, uses: u128, own: u128) -> u128 {
     if parent.asked > parent.min {
         let part = own.saturating_mul(parent.min);
@@ -38,7 +38,7 @@ fn share(recursive: bool, parent: Parent, uses: u128, own: u128) -> u128 {
     own.saturating_add(part.checked_div(beyond).unwrap_or(0))
 }
 
-/// What `/p/a`, `/p/b` and `/p/a/c` have for the root, as `prot` prints it. `/p` has its min as it stands.
+/// What `/p/a`, `/p/b` and `/p/a/c` have for the root, as `prot` prints it. `/p` has its whole min.
 fn printed(
     alloc: Global,
     recursive: bool,
@@ -67,7 +67,7 @@ fn printed(
     format!(in alloc; "{of_a}\n{of_b}\n{of_c}\n")
 }
 
-/// The lines that set these mins, and ask for what is printed then. A page is 4K.
+/// The lines that set these mins, and ask for what is printed after that. A page is 4K.
 fn asked(alloc: Global, min: Numbers) -> Result<String, AllocError> {
     let p = min.p.saturating_mul(4);
     let a = min.a.saturating_mul(4);
@@ -86,8 +86,8 @@ prot / /p/a/c
     )
 }
 
-/// The lines that make the groups. `/p/b` and `/p/a/c` use so many pages, and `/p` itself those that a removed
-/// group had.
+/// The lines that make the groups. `/p/b` and `/p/a/c` use these numbers of pages, and `/p` itself uses those that a
+/// removed group had.
 fn made(alloc: Global, header: &str, b: u32, c: u32, removed: u32) -> Result<String, AllocError> {
     let of_c = numbered(alloc, "1 write ", 1..=c, " 0 1")?;
     let of_b = numbered(alloc, "2 write ", 1..=b, " 0 1")?;
@@ -142,7 +142,7 @@ fn is_shared<R: Abort + AllocGlobal>(
     Ok(())
 }
 
-// With the word the rest is shared too, without it only what is asked for.
+// With the word, the rest is shared too. Without it, only what the children claim is shared.
 #[test]
 fn what_children_have_is_shared_by_the_rule(rt: HostRuntime) -> Result<(), Fail> {
     for recursive in [true, false] {

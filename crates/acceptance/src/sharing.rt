@@ -1,10 +1,10 @@
-//! As many tasks as there may be that show one page, and a child of a task with all its pages.
+//! The largest number of tasks that show one page, and a child of a task with all its pages.
 
 use crate::case::{numbered, prints};
 use std::test::Fail;
 
-// Each task forks the next one. The page leaves once for all of them, and comes back once: a second write
-// and a second read of the device would fail. Then all exit but the last.
+// Each task forks the next one. The page is written out once for all of them, and is read in once: a second write and a
+// second read of the device would fail. Then all exit except the last.
 #[test]
 fn a_page_that_1024_tasks_show_goes_with_the_last_of_them(rt: HostRuntime) -> Result<(), Fail> {
     let alloc = rt.alloc();
@@ -43,7 +43,7 @@ cat /a memory.current
     Ok(())
 }
 
-// There are frames for as many copies. None is wanted until a page is written to.
+// There are frames for that many copies. No frame is needed until a page is written to.
 #[test]
 fn a_child_shows_all_1024_pages_of_its_parent(rt: HostRuntime) -> Result<(), Fail> {
     let alloc = rt.alloc();

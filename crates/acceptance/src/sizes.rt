@@ -1,9 +1,9 @@
-//! Runs as large as they may be, and scripts that are longer than one would write.
+//! Runs of the largest possible sizes, and scripts that are longer than a person would write.
 
 use crate::case::{faults, numbered, prints};
 use std::test::Fail;
 
-// The limit is set in the first turn. Then each kill takes one, and so does finding that there is room.
+// The limit is set in the first turn. Then each kill takes one turn, and so does finding that there is room.
 #[test]
 fn an_answer_in_the_last_turn_counts(rt: HostRuntime) -> Result<(), Fail> {
     let alloc = rt.alloc();

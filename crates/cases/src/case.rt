@@ -1,15 +1,22 @@
 //! A case: a script, and what the program must write for it.
 //!
-//! A file of cases has, for each, a line `== ` with its name, the script's lines, and a line `-- prints`
-//! with the lines that it prints behind it, or a line `-- faults ` with the line of standard error that
-//! it is refused with. Behind these, blank lines and lines that begin with `#` belong to no case; nor do
-//! lines before the first.
+//! Each case of a file has a line `== ` with its name, and then the script's lines. After these, a line `-- prints` is
+//! followed by the lines that the script prints, or a line `-- faults ` has the line of standard error that it is
+//! refused with. Blank lines and lines that begin with `#` belong to no case after that. Neither do lines before the
+//! first case.
 //!
-//! A line `-- on threads` among the script's says that a run on threads prints the same, each time
-//! of two thousand, and behind it the line of an audit that finds nothing wrong. A line `-- with ` among them names the options, as the
-//! command line does. A line `-- as linux too` says that the same is so with `--as-linux`. A line `-- says ` has a line of standard
-//! error of a script that is run to its end, and `-- faults ` one of a script that is not; there may be several, in the order in which
-//! they come. There the script's file is called `case`. One that begins with `-- checked` says what a check prints behind the file's name.
+//! Other lines may be among the script's:
+//!
+//! - `-- on threads`: a run on threads prints the same, each time of two thousand. After it comes the line of an audit
+//!   that finds nothing wrong.
+//! - `-- with `: the line names the options, as the command line does.
+//! - `-- as linux too`: the same holds with `--as-linux`.
+//! - `-- says `: the line has a line of standard error of a script that is run to its end.
+//! - `-- faults `: the line has a line of standard error of a script that is not run to its end.
+//! - `-- checked`: a line that begins with this says what a check prints after the file's name.
+//!
+//! There may be several `-- says ` and `-- faults `, in the order in which their lines come. There the script's file is
+//! called `case`.
 
 ghost use Rattle.std.specs.Prelude.{◌≡◌, ◌==◌, ◌&&◌, if◌then◌else◌};
 ghost use Rattle.std.specs.Str.{bytes_eq};
@@ -23,10 +30,10 @@ use subcommands::{
     Options, Placement, read_and_check, run_script, run_script_on_threads, status_of, status_of_run,
 };
 
-/// What stands behind the answers of a run with an audit, and of one on threads.
+/// What follows the answers of a run with an audit, and of one on threads.
 const VERDICT: &[u8] = b"audit ok\n";
 
-/// How the file of a case's script is called.
+/// The name of the file of a case's script.
 const FILE: &str = "case";
 
 /// How often a case is run on threads.
@@ -51,13 +58,13 @@ pub struct Case {
     /// It is not run to its end.
     fails: bool,
     options: Options,
-    /// What a check prints behind the file's name, with its line feed; nothing where the script is not checked.
+    /// What a check prints after the file's name, with its line feed; nothing if the script is not checked.
     checked: String,
     /// It is run on threads too.
     on_threads: bool,
     /// It is run with `--as-linux` too.
     as_linux_too: bool,
-    /// Where the next line of the file belongs.
+    /// The part to which the next line of the file belongs.
     next: Part,
 }
 
@@ -120,8 +127,8 @@ impl Case {
         }
     }
 
-    /// Whether a run came out as the file says: each byte that it wrote, and its exit status, which is
-    /// 1 where a fault is named, and else 0.
+    /// Whether the result of a run is what the file says: each byte that it wrote, and its exit status. The status is 1
+    /// if a fault is named, and 0 otherwise.
     fn is_met(&self, status: u8, out: &[u8], err: &[u8]) -> bool
         ensures { result ≡ (status == (if self.now.fails then 1 else 0)
             && (bytes_eq out.now self.now.out.bytes.items && bytes_eq err.now self.now.err.bytes.items)) }
@@ -130,7 +137,7 @@ impl Case {
         status == wanted && out == self.out.as_bytes() && err == self.err.as_bytes()
     }
 
-    /// Runs the script, and says what came of it where that is not what must come.
+    /// Runs the script, and reports the result if it is not what it must be.
     pub fn run<R: Threads + Wait + Sync, W: Write>(
         &self,
         rt: &R,
@@ -168,7 +175,7 @@ impl Case {
         Ok(())
     }
 
-    /// Whether it came out as the file says.
+    /// Whether the result is what the file says.
     fn run_in_turns<W: Write>(
         &self,
         alloc: Global,
@@ -212,12 +219,12 @@ impl Case {
         to.write_all(&out)
     }
 
-    /// Whether it went through, and the verdict stands behind what the file says.
+    /// Whether it succeeded, with the verdict after what the file says.
     fn is_audited(&self, status: u8, out: &[u8]) -> bool {
         status == 0 && out.strip_suffix(VERDICT) == Some(self.out.as_bytes())
     }
 
-    /// The same on threads, until it comes out otherwise.
+    /// The same on threads, until a result is something else.
     fn run_often_on_threads<R: Threads + Wait + Sync, W: Write>(
         &self,
         rt: &R,
@@ -234,7 +241,7 @@ impl Case {
         Ok(())
     }
 
-    /// Whether a run on threads came out as the file says.
+    /// Whether the result of a run on threads is what the file says.
     fn run_on_threads<R: Threads + Wait + Sync, W: Write>(
         &self,
         rt: &R,
@@ -261,7 +268,7 @@ impl Case {
         Ok(false)
     }
 
-    /// Whether a check came out as the file says. Its status is 0 for a script that answers what it expects.
+    /// Whether the result of a check is what the file says. Its status is 0 for a script that answers what it expects.
     fn is_checked(&self, status: u8, told: &[u8]) -> bool {
         let wanted = if self.checked.starts_with(": ok, ") {
             0
@@ -299,7 +306,7 @@ impl Case {
     }
 }
 
-/// Asks for what the option of this name does.
+/// Sets what the option of this name asks for.
 fn ask_for(options: &mut Options, name: &str) {
     match name {
         "--as-linux" => options.placement = Placement::Linux,

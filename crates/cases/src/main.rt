@@ -1,5 +1,5 @@
-//! Runs the cases of the files that its words name, and prints each that does not come out as its file
-//! says, and how many there were.
+//! Runs the cases of the files that its words name. It prints each case whose result is not what its file says, and the
+//! number of cases.
 #![tactic(auto)]
 
 mod case;
@@ -13,7 +13,7 @@ use std::sync::Wait;
 use std::thread::Threads;
 use std::{env, io};
 
-/// Runs the cases of a file. How many there are.
+/// Runs the cases of a file. The result is their number.
 fn run_file<R: Files + Threads + Wait + Sync + AllocGlobal, W: Write>(
     rt: &R,
     name: &str,
@@ -28,7 +28,7 @@ fn run_file<R: Files + Threads + Wait + Sync + AllocGlobal, W: Write>(
     Ok(cases.len())
 }
 
-/// Runs the cases of all files, and prints how many there are of each.
+/// Runs the cases of all files, and prints the number of cases of each.
 fn run_all<R: Env + Files + Threads + Wait + Sync + AllocGlobal, W: Write>(
     rt: &R,
     out: &mut W,
@@ -45,7 +45,7 @@ fn main(rt: HostRuntime) -> ExitCode {
     let Err(fault) = run_all(&rt, &mut rt.stdout()) else {
         return ExitCode::SUCCESS;
     };
-    // The status tells of the failure even where its line can't be written.
+    // The status reports the failure even if its line can't be written.
     let _ = writeln!(rt.stderr(), "{fault}");
     ExitCode::FAILURE
 }

@@ -6,13 +6,13 @@ use book::GroupLook;
 use machine::amount::Amount;
 use std::alloc::{AllocError, Global};
 
-/// The curves' colours, by group; behind the last they begin anew.
+/// The curves' colours, by group. After the last they start again with the first.
 const COLOURS: [&str; 9] = [
     "#1f77b4", "#ff7f0e", "#2ca02c", "#9467bd", "#8c564b", "#e377c2", "#17becf", "#bcbd22",
     "#7f7f7f",
 ];
 
-/// Where the curves stand, in tenths of a pixel.
+/// The place of the curves, in tenths of a pixel.
 const LEFT: u64 = 700;
 
 const RIGHT: u64 = 9400;
@@ -21,7 +21,7 @@ const TOP: u64 = 600;
 
 const BOTTOM: u64 = 3600;
 
-/// How many groups are named beside each other below the curves, and how wide and how high the place of each is.
+/// How many groups are named in one row below the curves, and the width and height of the place of each.
 const BESIDE: usize = 3;
 
 const WIDE: u64 = 2900;
@@ -38,7 +38,7 @@ enum Curve {
 }
 
 impl Curve {
-    /// Its height in pages, where it has one that is drawn.
+    /// Its height in pages, if it has one that is drawn.
     fn height(self, look: &GroupLook) -> Option<u64> {
         match self {
             Curve::Usage => Some(look.usage),
@@ -65,7 +65,7 @@ fn finite(amount: Amount) -> Option<u64> {
     }
 }
 
-/// How much a min or low keeps, where it keeps anything.
+/// How much a min or low protects, if it protects anything.
 fn guarded(amount: Amount) -> Option<u64> {
     match amount {
         Amount::Pages(0) => None,
@@ -73,7 +73,7 @@ fn guarded(amount: Amount) -> Option<u64> {
     }
 }
 
-/// What is known of the group at this place, where it is there.
+/// What is known of the group at this place, if it exists.
 fn look_of(row: &Row, place: usize) -> Option<GroupLook> {
     row.groups.get(place)?.look
 }
@@ -106,8 +106,8 @@ fn setting_of(rows: &[Row], place: usize, most: u64) -> u64 {
     greatest
 }
 
-/// How many pages the picture is high: all that a group was charged with, and each setting that is no more than twice
-/// that.
+/// How many pages the picture is high. It has room for all that a group was charged with, and for each setting that is
+/// no more than twice that.
 fn height_of(rows: &[Row], groups: usize) -> u64 {
     let mut peak = 1;
     for place in 0..groups {
@@ -136,14 +136,14 @@ fn escaped(alloc: Global, text: &str) -> Result<String, AllocError> {
     Ok(out)
 }
 
-/// A curve that goes from left to right by steps. Where several steps fall on one place, it goes over the least and the
+/// A curve that moves from left to right in steps. If several steps are at one place, it covers the least and the
 /// greatest of them, and ends at the last.
 #[derive(Drop)]
 struct Pen {
     path: String,
-    /// Where it stands, if it is down: how far across, and how low.
+    /// Its position, if it is down: how far across, and how low.
     at: Option<(u64, u64)>,
-    /// The highest and the lowest place that it was to go to there.
+    /// The highest and the lowest place that it has to cover there.
     high: u64,
     low: u64,
 }
@@ -158,7 +158,7 @@ impl Pen {
         }
     }
 
-    /// Draws what it was to go over where it stands.
+    /// Draws what it has to cover at its position.
     fn settle(&mut self, alloc: Global) -> Result<(), AllocError> {
         let Some((_, down)) = self.at else {
             return Ok(());
@@ -172,7 +172,7 @@ impl Pen {
         self.path.push_str(&format!(in alloc; "V{down}")?)
     }
 
-    /// Goes on to the place, or begins there.
+    /// Moves to the place, or begins there.
     fn go(&mut self, alloc: Global, across: u64, down: u64) -> Result<(), AllocError> {
         match self.at {
             Some((x, y)) if x == across => {
@@ -208,7 +208,7 @@ impl Pen {
         }
     }
 
-    /// Is taken up at the place.
+    /// Is lifted at the place.
     fn lift(&mut self, alloc: Global, across: u64) -> Result<(), AllocError> {
         if self.at.is_some() {
             self.settle(alloc)?;
@@ -220,11 +220,11 @@ impl Pen {
     }
 }
 
-/// Where lines of the script and pages stand in the picture.
+/// The places of the script's lines and of pages in the picture.
 #[derive(Clone, Copy)]
 struct Board<'s> {
     alloc: Global,
-    /// For each step the number of its line.
+    /// For each step, the number of its line.
     lines: &'s [usize],
     across: Scale,
     up: Scale,
@@ -262,12 +262,12 @@ impl<'s> Board<'s> {
         LEFT.saturating_add(self.across.place(line))
     }
 
-    /// How low so many pages stand, which are no more than the picture is high.
+    /// How low the place of this number of pages is. The picture is at least that high.
     fn down(self, pages: u64) -> u64 {
         BOTTOM.saturating_sub(self.up.place(pages))
     }
 
-    /// The lines behind the curves, and what they stand for.
+    /// The grid lines, and the values that they mean.
     fn grid(self, out: &mut String) -> Result<(), AllocError> {
         for pages in page_marks(self.alloc, self.up)? {
             let y = pixels(self.alloc, self.down(pages))?;
@@ -334,7 +334,7 @@ impl<'s> Board<'s> {
     ) -> Result<(), AllocError> {
         let mut step = 0u64;
         let mut known: Option<GroupLook> = None;
-        // Marks at one place are one: how far across it is, of which line, and how many charges.
+        // Marks at one place are one: how far across it is, its line, and the number of charges.
         let mut mark: Option<(u64, u64, u64)> = None;
         for row in rows {
             let look = look_of(row, place);
@@ -403,7 +403,7 @@ impl<'s> Board<'s> {
     }
 }
 
-/// Who was killed.
+/// The tasks that were killed.
 fn killed(alloc: Global, kill: Kill) -> Result<String, AllocError> {
     let task = kill.task.0;
     match kill.with_group {
@@ -439,10 +439,13 @@ fn colour_of(place: usize) -> &'static str {
     COLOURS[place % COLOURS.len()]
 }
 
-/// The picture of what was watched, as a page-wide SVG: `memory.current` of each group over the lines of the script,
-/// `memory.max` as dashes, `memory.min` as dots and `memory.low` as dashes and dots of the same colour; a cross for
-/// each task that was killed, and a triangle where charges were refused at a max, with a title each. `lines` has for
-/// each step the number of its line. A setting of more than twice the most that any group was charged with is not drawn.
+/// The picture of what was watched, as a page-wide SVG. It shows `memory.current` of each group over the lines of the
+/// script. `memory.max` is drawn as dashes, `memory.min` as dots, and `memory.low` as dashes and dots, of the same
+/// colour. A cross is drawn for each task that was killed, and a triangle if charges were refused at a max. Each has a
+/// title.
+///
+/// `lines` has for each step the number of its line. A setting of more than twice the most that any group was charged
+/// with is not drawn.
 pub fn picture(
     alloc: Global,
     title: &str,

@@ -1,7 +1,7 @@
-//! What each group is charged with behind each step of a run, as a picture and as a table.
+//! What each group is charged with after each step of a run, as a picture and as a table.
 //!
-//! [`watch`] runs a schedule and keeps what a look at the book shows between the steps; it weaves no command in, so
-//! the run is the one that it would be without. [`picture`] draws it, and [`table`] lists it.
+//! [`watch`] runs a schedule and keeps what a look at the book shows between the steps. It adds no command, so the run
+//! is the same as without it. [`picture`] draws it, and [`table`] lists it.
 #![tactic(auto)]
 
 mod drawing;

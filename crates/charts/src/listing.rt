@@ -102,7 +102,7 @@ fn add_look(
     add_counts(alloc, text, look.local)
 }
 
-/// What the pages of a group hold; nothing where it was not looked at.
+/// What the pages of a group hold; zeros if it was not looked at.
 fn stat_or_none(stat: Option<MemoryStat>) -> MemoryStat
     ensures { result ≡ stat_or_none stat }
 {
@@ -112,7 +112,7 @@ fn stat_or_none(stat: Option<MemoryStat>) -> MemoryStat
     }
 }
 
-/// Adds the line of a group, if it is there.
+/// Adds the line of a group, if it exists.
 fn add_line(
     alloc: Global,
     text: &mut String,
@@ -128,7 +128,7 @@ fn add_line(
     }
 }
 
-/// Adds the lines of all groups behind one step.
+/// Adds the lines of all groups after one step.
 fn add_groups(
     alloc: Global,
     text: &mut String,
@@ -147,7 +147,7 @@ fn add_groups(
     Ok(())
 }
 
-/// Whether the step that stands there is the last of its line.
+/// Whether the step at this place is the last of its line.
 fn is_last(lines: &[usize], step: usize) -> bool
     requires { step < length lines.now }
     ensures { result ≡ is_last (get_or lines.now step 0) (drop (step + 1) lines.now) }
@@ -158,7 +158,8 @@ fn is_last(lines: &[usize], step: usize) -> bool
     }
 }
 
-/// Adds the lines behind as many steps as the row stands for, from this one on, and says behind which step that is.
+/// Adds the lines after each step of the row, the first of which is `step`. The result is the step after the last of
+/// them.
 fn add_row(
     alloc: Global,
     text: &mut String,
@@ -201,10 +202,12 @@ fn table_of(
     Ok(text)
 }
 
-/// The table of what was watched (comma-separated values), with a head. `lines` has for each step the number of its line
-/// of the script; of the steps of one line the last counts. A group that is not there has no line. Amounts are bytes;
-/// `refused`, `oom` and `oom_kill` are what was counted at the group itself so far: charges that were refused at its
-/// max, reliefs that killed, or found nobody to kill, and tasks of it that were killed.
+/// The table of what was watched (comma-separated values), with a head. `lines` has for each step the number of its
+/// line of the script. If a line has several steps, the last counts. A group that does not exist has no line. Amounts
+/// are bytes.
+///
+/// `refused`, `oom` and `oom_kill` are what was counted at the group itself so far. They count charges that were
+/// refused at its max; reliefs that killed, or found no task to kill; and tasks of it that were killed.
 pub fn table(
     alloc: Global,
     lines: &[usize],

@@ -1,4 +1,4 @@
-//! Scales, and what is written along them.
+//! Scales, and the numbers along them.
 
 ghost use Rattle.std.specs.Prelude.{◌≡◌, ◌*◌};
 ghost use Rattle.machine.specs.Access.{page_size};
@@ -8,17 +8,17 @@ use std::alloc::{AllocError, Global};
 use std::fmt;
 use std::fmt::{Formatter, Write};
 
-/// Where values stand on a line: the least at 0, and the greatest at its end.
+/// The places of values on a line: the least at 0, and the greatest at its end.
 #[derive(Clone, Copy)]
 pub struct Scale {
     pub least: u64,
     pub greatest: u64,
-    /// How long the line is.
+    /// The length of the line.
     pub length: u64,
 }
 
 impl Scale {
-    /// Where the value stands. What is beyond an end stands there.
+    /// The place of the value. A value beyond an end is at that end.
     pub fn place(self, value: u64) -> u64 {
         let above = value.saturating_sub(self.least);
         let whole = self.greatest.saturating_sub(self.least).max(1);
@@ -30,7 +30,7 @@ impl Scale {
 /// The most marks along a line.
 const MOST_MARKS: u64 = 8;
 
-/// The distance of round numbers of which at most eight stand below this one: of numbers of lines.
+/// The distance of round numbers of which at most eight are below this one; for numbers of lines.
 fn decimal_step(greatest: u64) -> u64 {
     let mut step = 1u64;
     for turn in 0..60u32 {
@@ -47,7 +47,7 @@ fn decimal_step(greatest: u64) -> u64 {
     step
 }
 
-/// The same of numbers of pages: the powers of two.
+/// The same for numbers of pages: the powers of two.
 fn binary_step(greatest: u64) -> u64 {
     let mut step = 1u64;
     for _turn in 0..60u32 {
@@ -81,14 +81,15 @@ pub fn page_marks(alloc: Global, scale: Scale) -> Result<Vec<u64>, AllocError> {
     marks(alloc, scale, binary_step(scale.greatest))
 }
 
-/// So many pages in bytes.
+/// This number of pages, in bytes.
 pub fn bytes_of(pages: u64) -> u128
     ensures { result ≡ pages * page_size }
 {
     u128::from(pages) * u128::from(PAGE_BYTES as u64)
 }
 
-/// So many pages in bytes as people write them: in the greatest of the units G, M and K that leaves no rest.
+/// This number of pages in bytes as people write them: in the greatest of the units G, M and K that leaves no
+/// remainder.
 #[derive(Clone, Copy)]
 pub struct Size(pub u64);
 

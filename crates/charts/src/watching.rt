@@ -17,31 +17,31 @@ use machine::record::MemoryStat;
 use machine::refusal::Refusal;
 use std::alloc::{AllocError, Global};
 
-/// What is shown of the group of a path at a time: nothing where no group has it.
+/// What is shown of a path's group at one time: nothing if no group has the path.
 #[derive(Clone, Copy, Debug, PartialEq, Eq)]
 pub struct Shown {
     pub look: Option<GroupLook>,
-    /// What its pages hold, where that is wanted.
+    /// What its pages hold, if that was asked for.
     pub stat: Option<MemoryStat>,
 }
 
-/// What is shown of all paths, behind each of so many steps, one after the other.
+/// What is shown of all paths. It is the same after each of `steps` consecutive steps.
 #[derive(Drop)]
 pub struct Row {
     pub groups: Vec<Shown>,
     pub steps: u64,
 }
 
-/// A task was killed in the step that stands at this place.
+/// A task was killed in the step at this place.
 #[derive(Clone, Copy)]
 pub struct Kill {
     pub step: usize,
     pub task: TaskId,
-    /// How many died with a group that was killed as one, itself among them. `None` where it died alone.
+    /// How many tasks died with a group that was killed as one, this task among them. `None` if it died alone.
     pub with_group: Option<u32>,
 }
 
-/// The kill that an answer of the step tells.
+/// The kill that an answer of the step reports.
 fn kill_of(step: usize, answer: &Answer) -> Option<Kill> {
     match answer {
         Answer::Kill(task) => Some(Kill {
@@ -74,7 +74,7 @@ struct Watcher<'p> {
     is_detailed: bool,
     rows: Vec<Row>,
     kills: Vec<Kill>,
-    /// Memory was wanted and refused.
+    /// Memory was refused.
     is_lost: bool,
 }
 
@@ -144,7 +144,7 @@ fn is_same(left: &[Shown], right: &[Shown]) -> bool
     true
 }
 
-/// Adds a row for one step. Where it fails rows are lost.
+/// Adds a row for one step. If it fails, rows are lost.
 fn add_row(rows: &mut Vec<Row>, groups: Vec<Shown>) -> Result<(), AllocError>
     ensures { OnOk result (expanded rows.new.items ≡ expanded rows.old.items ++ groups.items ∷ []) }
 {
@@ -210,8 +210,8 @@ impl<'p> Sink for Watcher<'p> {
     ghost further = { λ a b c ps qs first second. shown-more a.is_lost b.is_lost c.is_lost a.is_detailed b.is_detailed c.is_detailed (map (λ p. p.now) a.paths.now) (map (λ p. p.now) b.paths.now) (map (λ p. p.now) c.paths.now) a.rows.items b.rows.items c.rows.items ps qs first second };
 }
 
-/// Runs a schedule, and keeps what the groups of these paths are charged with behind each step; and what their pages
-/// hold, where that is wanted.
+/// Runs a schedule, and keeps what the groups of these paths are charged with after each step. It also keeps what their
+/// pages hold, if that is asked for.
 ///
 /// It fails as [`driver::run`] does.
 pub fn watch<D: BlockDevice>(

@@ -1,4 +1,4 @@
-//! Amounts of memory, as they are written to a control file.
+//! Amounts of memory, as written to a control file.
 
 ghost use Rattle.std.specs.Prelude.{◌≡◌};
 ghost use Rattle.machine.specs.Control.{unit_of, last_unit, digits_part, is_plain, amount_of};
@@ -7,7 +7,7 @@ use crate::PAGE_BYTES;
 use machine::amount::Amount;
 use text_forms::number::{is_digits, long_number_of};
 
-/// What a letter at the end of an amount multiplies by, and 1 of another character.
+/// The factor of a letter at the end of an amount, and 1 for any other character.
 fn unit_of(letter: u8) -> u64
     ensures { result ≡ unit_of letter }
 {
@@ -20,7 +20,7 @@ fn unit_of(letter: u8) -> u64
     }
 }
 
-/// The text before the letter at its end, and what that letter multiplies by.
+/// The text before the letter at its end, and the factor of that letter.
 fn split_unit(text: &str) -> (&str, u64)
     ensures digits { result.0.now ≡ digits_part text.now }
     ensures unit { result.1 ≡ last_unit text.now }
@@ -35,7 +35,7 @@ fn split_unit(text: &str) -> (&str, u64)
     (&text[..text.len() - 1], unit)
 }
 
-/// Whether a text is digits with no zero in front of others.
+/// Whether a text consists of digits, without a zero in front of others.
 fn is_plain(digits: &str) -> bool
     ensures { result ≡ is_plain digits.now }
 {
@@ -45,8 +45,8 @@ fn is_plain(digits: &str) -> bool
     digits.len() == 1 || digits.as_bytes()[0] > b'0'
 }
 
-/// The amount that a text writes: `max`, or a number of bytes with at most one of the suffixes K, M,
-/// G and T, rounded down to whole pages. `None` of any other text, and of 2^64 bytes and more.
+/// The amount that a text writes: `max`, or a number of bytes with at most one of the suffixes K, M, G and T, rounded
+/// down to whole pages. `None` for any other text, and for 2^64 bytes and more.
 pub fn parse_amount(text: &str) -> Option<Amount>
     ensures { result ≡ amount_of text.now }
 {

@@ -1,4 +1,4 @@
-//! The files by name, and who has them.
+//! The files by name, and which groups have them.
 
 ghost use Rattle.std.specs.Prelude.{◌≡◌};
 ghost use Rattle.machine.specs.Control.{file_named, has_file};
@@ -7,7 +7,7 @@ use machine::control::ControlFile;
 use machine::id::GroupId;
 use machine::record::Guard;
 
-/// The control file of a name.
+/// The control file of this name.
 pub fn file_named(name: &str) -> Option<ControlFile>
     ensures { result ≡ file_named name.now }
 {
@@ -25,7 +25,7 @@ pub fn file_named(name: &str) -> Option<ControlFile>
     }
 }
 
-/// Whether the group has the file: the root has `memory.reclaim` alone.
+/// Whether the group has the file. The root has only `memory.reclaim`.
 pub fn has_file(group: GroupId, file: ControlFile) -> bool
     ensures { result ≡ has_file group.0 file }
 {

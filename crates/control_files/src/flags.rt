@@ -1,12 +1,12 @@
-//! The flag of a group, as it is written to its control file.
+//! The flag of a group, as written to its control file.
 
 ghost use Rattle.std.specs.Prelude.{◌≡◌};
 ghost use Rattle.machine.specs.Control.{flag_of};
 
 use machine::record::OomGroup;
 
-/// The flag that a text writes: `0` or `1`. `None` of any other text, of another spelling of these numbers too
-/// (kernel: memory_oom_group_write, which reads what kstrtoint does).
+/// The flag that a text writes: `0` or `1`. `None` for any other text, including other spellings of these numbers
+/// (kernel: memory_oom_group_write, which accepts what kstrtoint reads).
 pub fn parse_flag(text: &str) -> Option<OomGroup>
     ensures { result ≡ flag_of text.now }
 {

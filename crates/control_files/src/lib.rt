@@ -1,10 +1,9 @@
-//! Control files: their names, the amounts and flags that are written to them, and what they say
-//! (admin-guide/cgroup-v2, "Memory Interface Files"; for amounts the kernel's
-//! page_counter_memparse and memparse).
+//! Control files: their names, the amounts and flags that are written to them, and their texts (admin-guide/cgroup-v2,
+//! "Memory Interface Files"; for amounts the kernel's page_counter_memparse and memparse).
 //!
-//! [`file_named`] and [`has_file`] say which file a name is and which groups have it,
-//! [`parse_amount`] and [`parse_flag`] read what is written to a file, and [`show_text`] writes what a file says of
-//! numbers. None of them knows a state of the machine.
+//! [`file_named`] and [`has_file`] say which file a name means and which groups have it. [`parse_amount`] and
+//! [`parse_flag`] read what is written to a file. [`show_text`] writes a file's text from its numbers. None of them
+//! knows a state of the machine.
 #![tactic(auto)]
 
 pub use amounts::parse_amount;

@@ -1,4 +1,4 @@
-//! What control files say.
+//! The texts of control files.
 
 ghost use Rattle.std.specs.Prelude.{◌≡◌, ◌*◌, IfOk};
 ghost use Rattle.machine.specs.Access.{page_size};
@@ -11,14 +11,14 @@ use machine::record::{EventCounts, MemoryStat, OomGroup};
 use machine::reply::Shown;
 use std::alloc::{AllocError, Global};
 
-/// So many pages in bytes.
+/// This number of pages, in bytes.
 fn bytes_of(pages: u64) -> u128
     ensures { result ≡ pages * page_size }
 {
     u128::from(pages) * u128::from(PAGE_BYTES)
 }
 
-/// So many pages as a line of bytes.
+/// This number of pages, as a line in bytes.
 fn pages_line(alloc: Global, pages: u64) -> Result<String, AllocError>
     ensures { IfOk result (λ s. string_bytes s ≡ line (bytes_text pages)) }
 {
@@ -26,14 +26,14 @@ fn pages_line(alloc: Global, pages: u64) -> Result<String, AllocError>
     format!(in alloc; "{bytes}\n")
 }
 
-/// The line of a key or a type: its name, and how often it was counted, or how many bytes there are.
+/// The line of a key or a type: its name, and its count or its number of bytes.
 fn key_line(alloc: Global, name: &str, count: u128) -> Result<String, AllocError>
     ensures { IfOk result (λ s. string_bytes s ≡ key_line name.now count) }
 {
     format!(in alloc; "{name} {count}\n")
 }
 
-/// How often each of the six keys was counted, a line a key.
+/// How often each of the six keys was counted, one line per key.
 fn events_lines(alloc: Global, counts: EventCounts) -> Result<String, AllocError>
     ensures { IfOk result (λ s. string_bytes s ≡ events_text counts) }
 {
@@ -46,7 +46,7 @@ fn events_lines(alloc: Global, counts: EventCounts) -> Result<String, AllocError
     Ok(lines)
 }
 
-/// How much memory there is of each of the two types, a line a type.
+/// The memory of each of the two types, one line per type.
 fn stat_lines(alloc: Global, stat: MemoryStat) -> Result<String, AllocError>
     ensures { IfOk result (λ s. string_bytes s ≡ stat_text stat) }
 {
@@ -55,8 +55,8 @@ fn stat_lines(alloc: Global, stat: MemoryStat) -> Result<String, AllocError>
     Ok(lines)
 }
 
-/// What a control file says of these numbers: pages in bytes, a flag, events by key, and pages by type. `AllocError`
-/// where memory is wanted and refused.
+/// The text of a control file with these numbers: pages in bytes, a flag, events by key, and pages by type.
+/// `AllocError` if memory is refused.
 pub fn show_text(alloc: Global, numbers: Shown) -> Result<String, AllocError>
     ensures { IfOk result (λ s. string_bytes s ≡ text_of numbers) }
 {

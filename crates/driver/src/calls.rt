@@ -20,8 +20,8 @@ use book::{Book, Event, InTicket, OutTicket, Pass, Reply};
 use turns::automaton::spend;
 use turns::turn::{Access, Resume, Stage, Transition};
 
-/// One event of the book, by a pass that is current. A ticket that is given out names a block of swap or of a
-/// file, and one that comes back was handed back.
+/// One event of the book, by a pass that is current. A ticket that is handed out names a block of swap or of a file. A
+/// ticket that comes back is one that was handed back.
 pub fn call(book: &mut Book, pass: &mut Pass, event: Event) -> Reply
     requires current { is_current book.old pass.old ≡ true }
     requires room { 0 < pass.old.room }
@@ -43,8 +43,8 @@ pub fn call(book: &mut Book, pass: &mut Pass, event: Event) -> Reply
     reply
 }
 
-/// The pages that are held in the frames of these bits are marked. It leaves no entry, and the pass keeps
-/// nothing of it.
+/// Marks the resident pages in the frames of these bits. This adds no entry to the trace, and the pass keeps nothing of
+/// it.
 pub fn merge(book: &mut Book, pass: &mut Pass, word: u32, bits: u64)
     requires room { 0 < pass.old.room }
     ensures called { Called book.old pass.old.caller (event.MergeMarks word bits) said.Ok book.new }
@@ -82,7 +82,7 @@ pub fn write_out<D: BlockDevice>(device: &mut D, resume: Resume, ticket: OutTick
     }
 }
 
-/// Ends what an actor is at. The transfer of a ticket in hand ends as failed.
+/// Ends what an actor is doing. The transfer of a ticket in hand ends as failed.
 pub fn give_up(book: &mut Book, pass: &mut Pass, activity: Activity)
     requires current { is_current book.old pass.old ≡ true }
     requires room { 0 < pass.old.room }

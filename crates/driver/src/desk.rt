@@ -1,4 +1,4 @@
-//! A book, and the seats of those who work on it.
+//! A book, and the seats of the actors that work on it.
 
 ghost use Rattle.std.specs.Prelude.{reverse, ◌≡◌, ◌⊎◌, ℕ, ◌+◌, ◌<◌, ◌≤◌, ◌∷◌, [], true, false, List, length, None, OnOk, OnErr, IfOk, IfErr, IfSome};
 ghost use Rattle.machine.specs.declared.command.Reply.{Reply as Told_by};
@@ -45,12 +45,12 @@ pub struct Desk {
     pub book: MarkedBook,
     pub pass: Pass,
     pub seats: Seats,
-    /// The most turns of a finish.
+    /// The most turns that a finish takes.
     pub turns: u32,
 }
 
 impl Desk {
-    /// A desk at which nobody has a command, over a new book. It fails as [`Book::open`] does.
+    /// A desk at which no actor has a command, over a new book. It fails as [`Book::open`] does.
     pub fn open(alloc: Global, config: Config) -> Result<Desk, Refusal>
         ensures opens { IfOk result (λ desk. (disk : Disk) → world desk disk ≡ first_world config disk) }
         ensures current { IfOk result (λ desk. is_current desk.book desk.pass ≡ true) }
@@ -94,7 +94,7 @@ impl Desk {
         told(self.alloc, pending, reply)
     }
 
-    /// What a command that stands there wants, as the book stands.
+    /// What a command in this state asks for, with the book as it is now.
     fn want(&self, stage: Stage) -> Want
         ensures wants { result ≡ wants_at self.now.book stage }
         ensures awaits { AwaitsAll result }
@@ -103,7 +103,7 @@ impl Desk {
         ask(stage, self.book.watermarks(), self.book.free_frames())
     }
 
-    /// What the book or the device is asked by a command that stands there, and what it makes of the
+    /// Asks the book or the device what a command in this state needs. The result is what the command makes of the
     /// answer.
     fn serve<D: BlockDevice>(
         &mut self,
@@ -132,7 +132,7 @@ impl Desk {
         }
     }
 
-    /// A turn of a command that stands there. Its actor, who sits at that place, rests meanwhile.
+    /// A turn of a command in this state. Its actor has the seat at this place, and is at rest during the turn.
     fn turn_stage<D: BlockDevice>(
         &mut self,
         device: &mut D,
@@ -157,7 +157,7 @@ impl Desk {
         Ok(outcome)
     }
 
-    /// The first turn of a command of the actor, who sits at that place and rests.
+    /// The first turn of a command of the actor at this place, which is at rest.
     fn first_turn<D: BlockDevice>(
         &mut self,
         device: &mut D,
@@ -182,8 +182,9 @@ impl Desk {
         }
     }
 
-    /// Room in the pass for all that one turn asks, a path or two, an event and the merge of the mark of a page that
-    /// it hit, beside the end of each transfer whose ticket is in hand, of which a seat has one at most.
+    /// Makes room in the pass for all that one turn asks. This is one or two paths, an event, and the merge of the mark
+    /// of a page that it hit. There is also room for the end of each transfer whose ticket is in hand; a seat has at
+    /// most one.
     fn make_room(&mut self) -> Result<(), AllocError>
         ensures room { OnOk result (length self.new.seats + 4 ≤ self.new.pass.room) }
         ensures same { (disk : Disk) → world self.new disk ≡ world self.old disk }
@@ -197,7 +198,7 @@ impl Desk {
         }
     }
 
-    /// One turn of the actor, who sits at that place: the first of the command that is lent to it, if one is.
+    /// One turn of the actor at this place. If a command is lent to it, this is that command's first turn.
     fn turn<D: BlockDevice>(
         &mut self,
         device: &mut D,
@@ -219,7 +220,7 @@ impl Desk {
         Ok(outcome)
     }
 
-    /// The same, where the pass has room for it.
+    /// The same, if the pass has room for it.
     fn take_turn<D: BlockDevice>(
         &mut self,
         device: &mut D,
@@ -243,7 +244,7 @@ impl Desk {
         }
     }
 
-    /// A turn of what the actor is at, where none is lent.
+    /// A turn of what the actor is doing, if no command is lent to it.
     fn next_turn<D: BlockDevice>(
         &mut self,
         device: &mut D,
@@ -266,7 +267,7 @@ impl Desk {
         }
     }
 
-    /// The place of the actor's seat, where it was found, and else of a new one, at which it rests.
+    /// The place of the actor's seat if it was found. Otherwise the place of a new seat, which is at rest.
     fn sit(&mut self, found: Option<usize>, actor: Actor) -> Result<usize, AllocError>
         requires { IsFound actor found self.old.seats }
         ensures place { IfOk result (λ place. SitsAt actor place self.new.seats) }
@@ -307,7 +308,7 @@ impl Desk {
         Ok(())
     }
 
-    /// Shows the book to the sink where the next turn of who sits at that place asks for relief.
+    /// Shows the book to the sink if the next turn of the actor at this place asks for relief.
     fn show_relief<S: Sink>(&self, at: usize, place: usize, sink: &mut S)
         requires { place < length self.now.seats }
         ensures quiet { S.took sink.old sink.new [] }
@@ -318,7 +319,7 @@ impl Desk {
         }
     }
 
-    /// One turn, whatever comes of it: `idle` where the actor has no command.
+    /// One turn, whatever its result. The answer is `idle` if the actor has no command.
     fn advance<D: BlockDevice, S: Sink>(
         &mut self,
         device: &mut D,
@@ -339,7 +340,7 @@ impl Desk {
         }
     }
 
-    /// The same of an actor who has no seat.
+    /// The same for an actor that has no seat.
     fn advance_nothing<S: Sink>(&self, at: usize, actor: Actor, sink: &mut S) -> Result<(), Cut>
         requires { IsFound actor None self.now.seats }
         ensures advances { OnOk result ((added : List Told_by) × S.took sink.old sink.new added × ((disk : Disk) → Advances (world self.now disk) actor added (world self.now disk))) }
@@ -351,7 +352,7 @@ impl Desk {
         Ok(())
     }
 
-    /// The same of an actor who sits at that place.
+    /// The same for the actor at this place.
     fn advance_at<D: BlockDevice, S: Sink>(
         &mut self,
         device: &mut D,
@@ -376,7 +377,7 @@ impl Desk {
         Ok(())
     }
 
-    /// Turns until an answer, at most as many as a finish takes.
+    /// Turns until an answer, at most the number that a finish takes.
     fn finish<D: BlockDevice, S: Sink>(
         &mut self,
         device: &mut D,
@@ -397,7 +398,7 @@ impl Desk {
         }
     }
 
-    /// A finish of an actor who has no seat, and so no command.
+    /// A finish of an actor that has no seat, and therefore no command.
     fn finish_nothing<S: Sink>(&self, at: usize, actor: Actor, sink: &mut S) -> Result<(), Cut>
         requires { IsFound actor None self.now.seats }
         ensures finishes { OnOk result ((added : List Told_by) × S.took sink.old sink.new added × ((disk : Disk) → Finishes (world self.now disk) actor added (world self.now disk))) }
@@ -409,8 +410,8 @@ impl Desk {
         Ok(())
     }
 
-    /// A finish of the actor, who sits at that place. A command that is lent to it was begun as it is lent, and has
-    /// its first turn here.
+    /// A finish of the actor at this place. A command that is lent to it began when it was lent, and has its first turn
+    /// here.
     fn finish_at<D: BlockDevice, S: Sink>(
         &mut self,
         device: &mut D,
@@ -448,7 +449,7 @@ impl Desk {
         Ok(())
     }
 
-    /// One step of a schedule, which stands there in it.
+    /// One step of a schedule, which is at this place in it.
     fn step<D: BlockDevice, S: Sink>(
         &mut self,
         device: &mut D,
@@ -470,8 +471,8 @@ impl Desk {
         }
     }
 
-    /// A command of the actor from its beginning to its end: the step that begins it, which stands there, and the one
-    /// behind it, which finishes it. Where nothing is under way it is lent, and not copied.
+    /// A command of the actor from its beginning to its end. The step at this place begins it, and the next step
+    /// finishes it. If no command is under way, this one is lent, and not copied.
     fn whole<D: BlockDevice, S: Sink>(
         &mut self,
         device: &mut D,
@@ -495,8 +496,8 @@ impl Desk {
         Ok(())
     }
 
-    /// Whether a command can be lent to the actor, whose seat was found there: nothing is under way, and a finish takes
-    /// a turn.
+    /// Whether a command can be lent to the actor, whose seat is at `found` if it has one. No command may be under way,
+    /// and a finish has to take a turn.
     fn may_lend(&self, found: Option<usize>, actor: Actor) -> bool
         requires { IsFound actor found self.now.seats }
         ensures rests { result ≡ true → is_under_way (activity_of actor self.now.seats) ≡ false }
@@ -505,7 +506,7 @@ impl Desk {
         self.turns > 0 && !self.seats.is_under_way(found, actor)
     }
 
-    /// The two steps, where nothing is under way: the command is lent for its first turn.
+    /// The two steps if no command is under way. The command is lent for its first turn.
     fn finish_lent<D: BlockDevice, S: Sink>(
         &mut self,
         device: &mut D,
@@ -556,7 +557,7 @@ impl Desk {
         Ok(())
     }
 
-    /// One step, which stands there in the schedule. Behind it the sink may look at the book.
+    /// One step, which is at this place in the schedule. After it the sink may look at the book.
     fn run_one<D: BlockDevice, S: Sink>(
         &mut self,
         device: &mut D,
@@ -575,7 +576,7 @@ impl Desk {
         Ok(())
     }
 
-    /// All that a line asks for. Behind each step the sink may look at the book.
+    /// All that a line asks for. After each step the sink may look at the book.
     fn run_line<D: BlockDevice, S: Sink>(
         &mut self,
         device: &mut D,
@@ -632,8 +633,8 @@ impl Desk {
         Ok(())
     }
 
-    /// All steps that are to be run, in order. Each answer goes to the sink as it comes, and behind each step it may look
-    /// at the book.
+    /// All steps that are to be run, in order. The sink gets each answer as it comes, and may look at the book after
+    /// each step.
     pub fn run_all<D: BlockDevice, S: Sink>(
         &mut self,
         device: &mut D,
@@ -652,8 +653,7 @@ impl Desk {
         }
     }
 
-    /// Spends what is left, and hands out the trace. Transfers whose tickets are in hand end as failed, with no
-    /// answer.
+    /// Spends what is left, and returns the trace. Transfers whose tickets are in hand end as failed, with no answer.
     pub fn close(self) -> Trace
         requires current { is_current self.book self.pass ≡ true }
         requires room { length self.seats ≤ self.pass.room }
@@ -680,7 +680,7 @@ impl Desk {
     }
 }
 
-/// What a finish of so many turns at most says where there is no command.
+/// The answer of a finish of at most this number of turns if there is no command.
 fn word_of_nothing(turns: u32) -> Word
     ensures none { turns ≡ 0 → result ≡ Word.TurnLimit }
     ensures some { 0 < turns → result ≡ Word.Idle }

@@ -1,4 +1,4 @@
-//! The marks of frames that were hit, taken as soon as they are set.
+//! The marks of frames that were hit. They are read and cleared as soon as they are set.
 
 ghost use Rattle.std.specs.Prelude.{◌≡◌, ℕ, ◌/◌, ◌%◌, ◌<◌, ◌==◌, IfOk, if◌then◌else◌};
 ghost use Rattle.std.specs.Int.{bit_at};
@@ -7,8 +7,8 @@ use marks::{Marks, Seat};
 use std::alloc::{AllocError, Global};
 use std::marker::Model;
 
-/// The marks of so many frames, with the one seat that sets and takes them: between two calls no frame is
-/// marked. A contract sees it as the number of frames.
+/// The marks of `frames` frames, with the only seat that sets and clears them. Between two calls no frame is marked. A
+/// contract sees it as the number of frames.
 #[derive(Drop)]
 pub struct HitMarks {
     marks: Marks,
@@ -28,7 +28,7 @@ impl Model for HitMarks {
 }
 
 impl HitMarks {
-    /// No frame of so many is marked. `AllocError` where there is no memory for a bit a frame.
+    /// Marks for this number of frames, none of them set. `AllocError` if there is no memory for one bit per frame.
     pub fn open(alloc: Global, frames: u32) -> Result<HitMarks, AllocError>
         ensures { IfOk result (λ hits. hits ≡ frames) }
     {
@@ -36,7 +36,7 @@ impl HitMarks {
         Ok(HitMarks { marks, seat })
     }
 
-    /// The frame was hit. Its mark is set, and the marks of its word are taken: they are its own alone.
+    /// The frame was hit. This sets its mark, then reads and clears the marks of its word: the frame's own mark alone.
     pub fn note(&mut self, frame: u32) -> u64
         requires { frame < self.old }
         ensures one { (f : ℕ) → f / 64 ≡ frame / 64 → bit_at result (f % 64) ≡ (if f == frame then 1 else 0) }

@@ -1,8 +1,8 @@
 //! Schedules: one turn of one actor after another, over a book and a block device.
 //!
-//! [`run`] takes any list of steps, in any order of actors, and gives the answers of the plain
-//! machine to it, in order. What a command asks in a turn, and what it makes of the answer, is said by
-//! the crate `turns`, which knows no schedule.
+//! [`run`] takes any list of steps, in any order of actors. It returns the answers of the plain machine to that list,
+//! in order. The crate `turns` says what a command asks in a turn, and what it makes of the answer. It knows no
+//! schedule.
 #![tactic(auto)]
 
 pub use machine::command::{Actor, Answer, Command, Reply, Step, Word};

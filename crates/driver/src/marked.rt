@@ -1,4 +1,4 @@
-//! A book with the marks of its frames beside it.
+//! A book with the marks of its frames.
 
 ghost use Rattle.std.specs.Prelude.{◌≡◌, ◌⊎◌, ℕ, ◌+◌, ◌<◌, ◌≤◌, true, false, reverse, IfOk, IfErr, OnErr};
 ghost use Rattle.machine.specs.Pages.{used_frames};
@@ -21,7 +21,7 @@ use machine::refusal::Refusal;
 use std::alloc::{AllocError, Global};
 use std::marker::Model;
 
-/// A book, whose pages are marked as they are hit. A contract sees it as the book's past.
+/// A book whose pages are marked when they are hit. A contract sees it as the book's past.
 ///
 /// It must be spent, by [`MarkedBook::into_book`].
 #[must_use]
@@ -43,7 +43,7 @@ impl Model for MarkedBook {
 }
 
 impl MarkedBook {
-    /// A book with the root group alone. It fails as [`Book::open`] does.
+    /// A book with only the root group. It fails as [`Book::open`] does.
     pub fn open(alloc: Global, config: Config) -> Result<MarkedBook, Refusal>
         ensures opens { IfOk result (λ book. book ≡ first_past (opening_of config)) }
         ensures sized { IfOk result (λ book. is_config config ≡ true) }
@@ -67,28 +67,28 @@ impl MarkedBook {
         &self.book
     }
 
-    /// How many frames are free, as the book says.
+    /// The number of free frames, as the book says.
     pub fn free_frames(&self) -> u32
         ensures { result + used_frames self.now.state.pages ≡ self.now.state.opening.frames }
     {
         self.book.free_frames()
     }
 
-    /// The daemon's marks, as the book says.
+    /// The daemon's watermarks, as the book says.
     pub fn watermarks(&self) -> Watermarks
         ensures { result ≡ self.now.state.opening.watermarks }
     {
         self.book.watermarks()
     }
 
-    /// Where pages enter the generation lists that are read in, as the book says.
+    /// Where pages that are read in enter the generation lists, as the book says.
     pub fn placement(&self) -> Placement
         ensures { result ≡ self.now.state.opening.placement }
     {
         self.book.placement()
     }
 
-    /// Nothing is done: what holds of the book's history.
+    /// Does nothing. The clause says what holds of the book's history.
     pub fn history_is_right(&self)
         ensures legal { Legal self.now.state.opening self.now.history self.now.state }
         ensures right { (files : ℕ → ℕ → ℕ → ℕ) → Honest (at_first files) self.now.history → Right (at_first files) self.now.history }
@@ -96,7 +96,7 @@ impl MarkedBook {
         self.book.history_is_right();
     }
 
-    /// A pass for one worker more. It fails as [`Book::pass`] does.
+    /// A pass for another worker. It fails as [`Book::pass`] does.
     pub fn pass(&mut self) -> Result<Pass, Refusal>
         ensures pass { IfOk result (λ pass. pass.caller.worker ≡ self.old.passes) }
         ensures current { IfOk result (λ pass. is_current self.new pass ≡ true) }
@@ -106,8 +106,8 @@ impl MarkedBook {
         self.book.pass()
     }
 
-    /// One event of the book, by a pass that is current, as [`calls::call`] asks it. A page that it hits is marked, if
-    /// it is to be.
+    /// One event of the book, by a pass that is current, as [`calls::call`] asks it. If `marks` is set, a page that the
+    /// event hits is marked.
     pub fn call(&mut self, pass: &mut Pass, event: Event, marks: bool) -> Reply
         requires current { is_current self.old pass.old ≡ true }
         requires room { 2 ≤ pass.old.room }
@@ -127,7 +127,7 @@ impl MarkedBook {
         reply
     }
 
-    /// The page that the reply says was hit, if it says so, is marked, if it is to be.
+    /// Marks the page that the reply reports as hit, if there is one and `marks` is set.
     fn mark_hit(&mut self, pass: &mut Pass, reply: &Reply, marks: bool)
         requires within { HitsWithin self.old.state.opening.frames reply.now }
         requires current { is_current self.old pass.old ≡ true }
@@ -150,7 +150,7 @@ impl MarkedBook {
         }
     }
 
-    /// Hands out the book.
+    /// Returns the book.
     pub fn into_book(self) -> Book
         ensures { result ≡ self }
     {

@@ -17,12 +17,12 @@ use schedules::Steps;
 use std::alloc::Global;
 use trace::Trace;
 
-/// The answers to a list of steps, in order: those of the plain machine over this device. Its first
-/// blocks are swap: what they held is lost. The blocks behind them are the homes of the files' pages:
-/// what they hold is what the files have at first.
+/// The answers to a list of steps, in order: those of the plain machine over this device. Its first blocks are swap:
+/// what they held is lost. The blocks after them are the homes of the files' pages: their contents are those of the
+/// files at first.
 ///
-/// `Invalid` where the configuration is out of its limits or the device has too few blocks, and
-/// otherwise `NoMemory` where memory is wanted, for what is no command's answer, and refused.
+/// `Invalid` if the configuration is out of its limits or the device has too few blocks. Otherwise `NoMemory` if memory
+/// is refused and no command answers with that refusal.
 pub fn run<D: BlockDevice>(
     alloc: Global,
     config: Config,
@@ -45,12 +45,11 @@ pub fn run<D: BlockDevice>(
     }
 }
 
-/// The same, but each answer goes to the sink as it comes, so that what was answered is known while the
-/// run goes on, and also where it does not go through. Behind each step the sink is shown the book. The trace of a run
-/// that goes through is handed out: what the run did, and behind that the ends of the transfers that it left open,
-/// which fail.
+/// The same, but the sink gets each answer as it comes. The answers are known while the run continues, and also if it
+/// fails. After each step the sink sees the book. A run that succeeds returns its trace: what the run did, and after
+/// that the ends of the transfers that it left open, which fail.
 ///
-/// `Closed` where the sink takes no more answers; the run ends then.
+/// `Closed` if the sink takes no more answers; the run ends then.
 pub fn run_into<D: BlockDevice, S: Sink>(
     alloc: Global,
     config: Config,

@@ -1,4 +1,4 @@
-//! What an actor is at, and what a turn of it shows.
+//! What an actor is doing, and what its turn shows.
 
 use machine::command::{Actor, Answer, Command};
 use turns::turn::{Kill, Stage};
@@ -11,7 +11,7 @@ pub enum Outcome {
     Ends(Answer),
 }
 
-/// What an actor is at.
+/// What an actor is doing.
 #[must_use]
 pub enum Activity {
     Rests,
@@ -20,7 +20,7 @@ pub enum Activity {
     Does(Stage),
 }
 
-/// An actor, and what it is at.
+/// An actor, and what it is doing.
 #[must_use]
 pub struct Seat {
     pub actor: Actor,

@@ -1,4 +1,4 @@
-//! The seats: what each actor is at, by first appearance.
+//! The seats: what each actor is doing, in order of first appearance.
 
 ghost use Rattle.std.specs.Prelude.{◌≡◌, ℕ, ◌+◌, ◌<◌, ◌≤◌, ◌++◌, ◌∷◌, [], length, None, IfOk, OnOk, OnErr, true, false};
 ghost use Rattle.driver.specs.Schedule.{number_of, with_activity, activity_of, said_at, outcome_of, left_of, is_end};
@@ -18,11 +18,11 @@ use std::mem;
 use turns::automaton;
 use turns::turn::{Stage, Transition};
 
-/// The seats in order of first appearance, and the numbers of those who sit there, so that an actor's
-/// place is looked up and not looked for.
+/// The seats in order of first appearance, and the numbers of the actors that have them. An actor's place is looked up
+/// by its number, without a search.
 ///
-/// A contract sees them as the list of seats. They must be taken apart by [`Seats::into_list`], since
-/// a command under way may hold a ticket.
+/// A contract sees them as the list of seats. They must be taken apart by [`Seats::into_list`], since a command under
+/// way may hold a ticket.
 #[must_use]
 pub struct Seats {
     list: Vec<Seat>,
@@ -64,7 +64,7 @@ impl Seats {
         }
     }
 
-    /// How many there are.
+    /// The number of seats.
     pub fn len(&self) -> usize
         ensures len { result ≡ length self.now }
         ensures few { result + 4 ≤ usize.MAX }
@@ -87,8 +87,7 @@ impl Seats {
         self.numbers.get_index_of(&number_of(actor))
     }
 
-    /// The place of one seat more, of an actor who has none, and rests there. It fails only where memory is wanted
-    /// and refused.
+    /// The place of a new seat, for an actor that has none and is at rest there. It fails only if memory is refused.
     pub fn add(&mut self, actor: Actor) -> Result<usize, AllocError>
         requires { IsFound actor None self.old }
         ensures place { IfOk result (λ place. SitsAt actor place self.new) }
@@ -107,7 +106,7 @@ impl Seats {
         Ok(place)
     }
 
-    /// Puts the actor, who sits at that place, at this, and hands out what it was at.
+    /// Sets what the actor at this place is doing, and returns what it was doing.
     fn exchange(&mut self, place: usize, actor: Actor, activity: Activity) -> Activity
         requires { SitsAt actor place self.old }
         ensures was { result ≡ activity_of actor self.old }
@@ -117,7 +116,7 @@ impl Seats {
         mem::replace(&mut self.list[place].activity, activity)
     }
 
-    /// Whether the actor, whose seat was found there, has a command that is not answered yet.
+    /// Whether the actor, whose seat is at `found` if it has one, has a command that is not answered yet.
     pub fn is_under_way(&self, found: Option<usize>, actor: Actor) -> bool
         requires { IsFound actor found self.now }
         ensures { result ≡ is_under_way (activity_of actor self.now) }
@@ -128,7 +127,7 @@ impl Seats {
         }
     }
 
-    /// Why the command of who sits at that place asks for relief in its next turn, if it does.
+    /// Why the command of the actor at this place asks for relief in its next turn, if it does.
     pub fn relief_at(&self, place: usize) -> Option<Cause>
         requires { place < length self.now }
     {
@@ -139,7 +138,7 @@ impl Seats {
         }
     }
 
-    /// Takes what the actor, who sits at that place, is at: it rests then.
+    /// Takes what the actor at this place is doing. The actor is at rest then.
     pub fn take(&mut self, place: usize, actor: Actor) -> Activity
         requires { SitsAt actor place self.old }
         ensures was { result ≡ activity_of actor self.old }
@@ -152,7 +151,7 @@ impl Seats {
         self.exchange(place, actor, Activity::Rests)
     }
 
-    /// Puts the actor, who sits at that place and has nothing under way, at this.
+    /// Sets what the actor at this place is doing. It has no command under way.
     pub fn put(&mut self, place: usize, actor: Actor, activity: Activity)
         requires place { SitsAt actor place self.old }
         requires free { is_under_way (activity_of actor self.old) ≡ false }
@@ -174,7 +173,7 @@ fn is_at_work(activity: &Activity) -> bool
     }
 }
 
-/// Spends what an actor with nothing under way was at.
+/// Spends what an actor with no command under way was doing.
 fn let_go(activity: Activity)
     requires { is_under_way activity ≡ false }
 {
@@ -184,8 +183,8 @@ fn let_go(activity: Activity)
     }
 }
 
-/// What a turn shows, and what the actor is at after it. A schedule does not wait: a command that would
-/// ends here, and is answered `busy`.
+/// What a turn shows, and what the actor is doing after it. A schedule does not wait: a command that would wait ends
+/// here, and is answered `busy`.
 pub fn settle(transition: Transition) -> (Outcome, Activity)
     ensures shows { result.0 ≡ outcome_of transition }
     ensures leaves { result.1 ≡ left_of transition }
@@ -214,7 +213,7 @@ pub fn ends(outcome: &Outcome) -> bool
     }
 }
 
-/// Tells what a turn shows.
+/// Reports what a turn shows.
 pub fn say<S: Sink>(sink: &mut S, at: usize, actor: Actor, outcome: Outcome) -> Result<(), Closed>
     ensures said { OnOk result (S.took sink.old sink.new (said_at actor outcome)) }
     ensures failed { OnErr result (S.failed sink.old sink.new (said_at actor outcome)) }
@@ -227,7 +226,7 @@ pub fn say<S: Sink>(sink: &mut S, at: usize, actor: Actor, outcome: Outcome) -> 
     }
 }
 
-/// Tells an answer.
+/// Reports an answer.
 pub fn answer<S: Sink>(sink: &mut S, at: usize, actor: Actor, answer: Answer) -> Result<(), Closed>
     ensures said { OnOk result (S.took sink.old sink.new (answer_by actor answer)) }
     ensures failed { OnErr result (S.failed sink.old sink.new (answer_by actor answer)) }

@@ -1,4 +1,4 @@
-//! Who takes the answers of a run.
+//! The receivers of a run's answers.
 
 ghost use Rattle.std.specs.Prelude.{◌≡◌, ◌++◌, ◌∷◌, [], List, OnOk, OnErr};
 ghost use Rattle.machine.specs.declared.command.Reply.{Reply as Told_by};
@@ -10,36 +10,36 @@ use machine::event::Cause;
 use machine::refusal::Refusal;
 use std::alloc::AllocError;
 
-/// The sink takes no more answers. Why, it knows itself.
+/// The sink takes no more answers. It knows the reason itself.
 #[derive(Clone, Copy)]
 pub struct Closed;
 
-/// Takes the answers of a run, each as it comes: a list keeps them, a writer prints them. Between two steps it may look
-/// at the book, and before a relief, which may kill a task.
+/// Takes the answers of a run, each as it comes: a list keeps them, a writer prints them. It may look at the book
+/// between two steps, and before a relief, which may kill a task.
 pub trait Sink {
-    /// From the one to the other it took these answers, in this order, and no other.
+    /// Between the two states it took these answers, in this order, and no other.
     ghost took: { Self → Self → List Told_by → Type 0 };
 
-    /// From the one to the other it took no answer, though it may have begun to take the first of these.
+    /// Between the two states it took no answer, though it may have begun to take the first of these.
     ghost failed: { Self → Self → List Told_by → Type 0 };
 
-    /// From the one to the other [`Sink::look`] showed it books with these pasts, in this order, and no other.
+    /// Between the two states [`Sink::look`] showed it books with these pasts, in this order, and no other.
     ghost saw: { Self → Self → List Past → Type 0 };
 
-    /// Takes an answer. It came of the step that stands at this place in the list of steps, the first at
-    /// 0. `Closed` where it could not, and then it is given no other.
+    /// Takes an answer to the step at this place in the list of steps; the first is at 0. `Closed` if it could not take
+    /// the answer. It gets no other answer then.
     fn take(&mut self, step: usize, reply: Reply) -> Result<(), Closed>
         ensures took { OnOk result (took self.old self.new (reply ∷ [])) }
         ensures failed { OnErr result (failed self.old self.new (reply ∷ [])) }
         ensures unseen { saw self.old self.new [] };
 
-    /// Is shown the book as it is behind the step that stands at this place.
+    /// Sees the book as it is after the step at this place.
     fn look(&mut self, step: usize, book: &Book)
         ensures saw { saw self.old self.new (book.now ∷ []) }
         ensures quiet { took self.old self.new [] };
 
-    /// Is shown the book, and why room is wanted, before a turn of that step asks for relief, which may kill a task. No
-    /// clause says that it is.
+    /// Sees the book, and why room is needed, before a turn of that step asks for relief, which may kill a task. No
+    /// clause says that it does.
     fn see_relief(&mut self, step: usize, book: &Book, cause: Cause)
         ensures unseen { saw self.old self.new [] }
         ensures quiet { took self.old self.new [] };
@@ -55,7 +55,7 @@ pub trait Sink {
     ghost further: { (a b c : Self) (ps qs : List Past) → saw a b ps → saw b c qs → saw a c (ps ++ qs) };
 }
 
-/// Keeps them in their order, and is closed where memory is wanted and refused.
+/// Keeps the answers in their order, and is closed if memory is refused.
 impl Sink for Vec<Reply> {
     ghost use Rattle.std.proofs.Common.{refl, sym, ap, ◌∙◌, append_assoc, append-nil};
 
@@ -87,7 +87,7 @@ impl Sink for Vec<Reply> {
 /// Why a run was cut short.
 #[derive(Clone, Copy, PartialEq, Eq)]
 pub enum Cut {
-    /// Memory was wanted, for what is no command's answer, and refused.
+    /// Memory was refused, and no command answered with that refusal.
     NoMemory,
     /// The sink took no more answers.
     Closed,
@@ -105,11 +105,10 @@ impl From<Closed> for Cut {
     }
 }
 
-/// Why a run into a sink did not go through.
+/// Why a run into a sink failed.
 #[derive(Clone, Copy)]
 pub enum Stop {
-    /// As [`crate::run`]: the configuration is out of its limits or the device has too few blocks, or
-    /// memory was wanted and refused.
+    /// As [`crate::run`]: the configuration is out of its limits, the device has too few blocks, or memory was refused.
     Refused(Refusal),
     /// The sink took no more answers.
     Closed,

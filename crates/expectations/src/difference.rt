@@ -1,8 +1,8 @@
-//! Where what was answered is not what the script expects.
+//! The first place at which the answers are not what the script expects.
 
 use std::{fmt, str};
 
-/// Where what was answered is not what the script expects, by a line of the script.
+/// A place at which the answer is not what the script expects, by a line of the script.
 #[derive(Clone, Copy)]
 pub enum Difference<'a> {
     /// The line expects a text, and another was answered.
@@ -16,14 +16,14 @@ pub enum Difference<'a> {
         line: usize,
         wanted: &'a [u8],
     },
-    /// The line answered a text that nothing expects.
+    /// The line answered a text that no line expects.
     Unexpected {
         line: usize,
         got: &'a [u8],
     },
 }
 
-/// A text of a script, or of its output, which are UTF-8 where a script was run. Its control characters are written out.
+/// A text of a script, or of its output. Both are UTF-8 if a script was run. Its control characters are written out.
 #[derive(Clone, Copy)]
 struct Text<'a>(&'a [u8]);
 

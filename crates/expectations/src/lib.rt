@@ -1,4 +1,4 @@
-//! What a script expects of its run, in lines of its own, and the first place where what was answered is something else.
+//! What a script expects of its run, in lines of its own, and the first place where the answers are something else.
 //!
 //! A line `#> TEXT` is a comment of the script, and says that TEXT is the next line of output. It belongs to the lines
 //! between it and the expected lines before.
@@ -14,8 +14,8 @@ pub use difference::Difference;
 use scripts::lines::first_line;
 use walk::Walk;
 
-/// Holds the output of a run of the script, and for each line of it the number of the script's line that it came of, against
-/// what the script expects. The error is the first difference.
+/// Compares the output of a run of the script with what the script expects. `numbers` has, for each line of the output,
+/// the number of the script's line that caused it. The error is the first difference.
 pub fn compare<'a>(
     script: &'a [u8],
     output: &'a [u8],

@@ -1,4 +1,4 @@
-//! A walk over the lines of a script, beside what was answered.
+//! A walk over the lines of a script, together with the answers.
 
 ghost use Rattle.std.specs.Prelude.{◌≡◌, ℕ, ◌+◌, List, [], ◌∷◌, ◌++◌, ◌↔◌, ◌==◌, not, find, position, MatchOption, MatchResult, IsOk, IfErr};
 ghost use Rattle.machine.specs.Control.{line};
@@ -8,7 +8,7 @@ ghost use Rattle.expectations.specs.Steps.{IsMet, Passes, Stops};
 
 use crate::difference::Difference;
 
-/// What a line begins with that says what is expected.
+/// A line that begins with this says what is expected.
 const MARK: &[u8] = b"#> ";
 
 fn is_blank(byte: u8) -> bool
@@ -17,7 +17,7 @@ fn is_blank(byte: u8) -> bool
     byte == b' ' || byte == b'\t'
 }
 
-/// What the first word of the line begins with, if it has one.
+/// The first byte of the line's first word, if it has one.
 fn first_byte(line: &[u8]) -> Option<u8>
     ensures { result ≡ find (λ b. not (is_blank b)) line.now }
 {
@@ -34,14 +34,14 @@ fn is_skipped(line: &[u8]) -> bool
     }
 }
 
-/// What stands behind this front, where the output begins with it.
+/// What follows this front, if the output begins with it.
 fn behind<'a>(output: &'a [u8], front: &[u8]) -> Option<&'a [u8]>
     ensures { MatchOption result ((rest : List ℕ) → output.now ≡ front.now ++ rest → ⊥) (λ rest. output.now ≡ front.now ++ rest.now) }
 {
     output.strip_prefix(front)
 }
 
-/// What stands behind this line, where the output begins with it.
+/// What follows this line, if the output begins with it.
 fn behind_line<'a>(output: &'a [u8], text: &[u8]) -> Option<&'a [u8]>
     ensures { MatchOption result ((rest : List ℕ) → output.now ≡ line text.now ++ rest → ⊥) (λ rest. output.now ≡ line text.now ++ rest.now) }
 {
@@ -67,16 +67,16 @@ fn first_text(output: &[u8]) -> &[u8]
     }
 }
 
-/// What is left of the answers behind the lines of a script that were walked over.
+/// The answers that are left after a walk over lines of a script.
 #[derive(Clone, Copy)]
 pub struct Walk<'a, 'n> {
-    /// The last expected line behind which a line asked for something; 0 where there is none.
+    /// The last expected line after which a line asked for something, or 0.
     after: usize,
-    /// The last expected line; 0 where there is none.
+    /// The last expected line, or 0.
     last: usize,
-    /// What was answered and not yet expected.
+    /// The output that no line has expected yet.
     output: &'a [u8],
-    /// The numbers of the lines that it came of.
+    /// The numbers of the lines that caused it.
     numbers: &'n [usize],
 }
 
@@ -154,7 +154,7 @@ impl<'a, 'n> Walk<'a, 'n> {
         })
     }
 
-    /// Behind the last line all that was answered has to be expected.
+    /// After the last line, all answers must have been expected.
     pub fn end(self) -> Result<(), Difference<'a>>
         ensures met { (number : ℕ) → IsOk result ↔ IsMet number self.entry.after self.entry.last [] self.entry.output.now self.entry.numbers.now }
         ensures told { IfErr result (IsLeft self.entry.output.now self.entry.numbers.now) }

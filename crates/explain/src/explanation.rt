@@ -1,7 +1,7 @@
-//! What more there is to say of a fault: which word of the line is wrong, and what its place asks for.
+//! More about a fault: which word of the line is wrong, and what its place requires.
 //!
-//! Nothing is judged anew: the tests are those by which the reader found the fault, and the word that is
-//! named is the first of the line that fails the test of the cause. No clause speaks of the texts.
+//! Nothing is judged again: the tests are those by which the reader found the fault. The word that is named is the
+//! first of the line that fails the test of the cause. No clause speaks of the texts.
 
 use crate::why::{BadPath, Placed, Why};
 use machine::limit::{LAST_NUMBER, MOST_BLOCKS, MOST_FILES};
@@ -24,9 +24,9 @@ struct Parts<'w, 't> {
     manner: Manner,
     /// The task's number, of a task's line.
     task: Option<Placed<'w>>,
-    /// How many words stand before the one that says what the line does.
+    /// How many words come before the one that says what the line does.
     before: usize,
-    /// The word that says what the line does, and those behind it.
+    /// The word that says what the line does, and those after it.
     rest: &'w [Token<'t>],
 }
 
@@ -53,7 +53,7 @@ impl<'w, 't> Parts<'w, 't> {
         word_named(speaker, self.rest.first()?.text())
     }
 
-    /// The first argument that fails the test of the cause, with what its place asks for.
+    /// The first argument that fails the test of the cause, with what its place requires.
     fn misfit(&self, word: Word, cause: Cause) -> Option<(Kind, Placed<'w>)> {
         let (_, arguments) = self.rest.split_first()?;
         let kinds = word.form().arguments;
@@ -72,7 +72,7 @@ fn fits(cause: Cause, kind: Kind, word: &Token<'_>) -> bool {
     }
 }
 
-/// Of a line without one, or of what stands behind `begin`.
+/// The parts of a line without a task's number, or of the words after `begin`.
 fn bare_parts<'w, 't>(manner: Manner, before: usize, words: &'w [Token<'t>]) -> Parts<'w, 't> {
     match words.split_first() {
         Some((first, rest)) if first.is_digits() => {
@@ -161,7 +161,7 @@ fn extra_argument<'w>(parts: &Parts<'w, '_>) -> Option<Why<'w>> {
     Some(Why::Extra(extra, form))
 }
 
-/// A word that is no number as this kind asks for.
+/// A word that is not a number of this kind.
 fn no_number<'w>(placed: Placed<'w>, kind: Kind) -> Why<'w> {
     if !is_digits(placed.text) {
         return Why::NotDigits(placed, kind);
@@ -173,7 +173,7 @@ fn no_number<'w>(placed: Placed<'w>, kind: Kind) -> Why<'w> {
     }
 }
 
-/// The daemon's marks are out of order, or above the frames.
+/// The daemon's watermarks are out of order, or above the frames.
 fn bad_marks<'w>(
     alloc: Global,
     text: &[u8],
@@ -243,10 +243,10 @@ fn bad_name<'w>(parts: &Parts<'w, '_>) -> Option<Why<'w>> {
     Some(Why::Path(placed, bad_path(placed.text)?))
 }
 
-/// Which of the earlier lines is looked for.
+/// Which of the earlier lines to look for.
 #[derive(Clone, Copy)]
 enum Earlier<'a> {
-    /// One behind which no line of the header may stand.
+    /// One after which no line of the header may come.
     EndOfHeader,
     /// One with this word.
     With(Word),
@@ -307,8 +307,8 @@ fn header_twice<'w>(text: &[u8], line: usize, parts: &Parts<'w, '_>) -> Option<W
     Some(Why::Twice { line, name })
 }
 
-/// A line is for a schedule alone by its first word: no task says such a word, and behind `begin` it is
-/// `begin` itself.
+/// The first word of a line shows that it is only for a schedule. A task's line has no such word, and in a line with
+/// `begin` it is `begin` itself.
 fn only_in_schedule<'w>(words: &'w [Token<'_>]) -> Option<Why<'w>> {
     let first = words.first()?;
     Some(Why::OnlyInSchedule(Placed {
@@ -355,9 +355,9 @@ fn why<'w>(
     }
 }
 
-/// One line, without its end, that says more of the fault for which [`scripts::read`] refused this
-/// text: the word that is wrong, in quotes, and what its place asks for. Of a lack of memory there is
-/// no more to say. No clause speaks of what it says.
+/// One line, without its end, that says more of the fault for which [`scripts::read`] refused this text: the word that
+/// is wrong, in quotes, and what its place requires. For a lack of memory there is nothing more to say. No clause
+/// speaks of what it says.
 pub fn explain(
     alloc: Global,
     text: &[u8],

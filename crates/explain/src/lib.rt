@@ -1,7 +1,7 @@
-//! What more there is to say of a faulty line of a script: which word is wrong, and what its place asks for; and why a command of
-//! a sound one ended with a word.
+//! More about a faulty line of a script: which word is wrong, and what its place requires. It also says why a command
+//! of a line without a fault ended with a word.
 //!
-//! It judges nothing anew: line and cause, and the word, are those that the reader and the machine gave. No clause speaks of its
+//! It judges nothing again: the reader and the machine gave the line, the cause and the word. No clause speaks of its
 //! texts, so they can be worded for people.
 #![tactic(auto)]
 

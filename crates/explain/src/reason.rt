@@ -15,7 +15,7 @@ const MOST_LEVELS: usize = 16;
 /// The last offset of a page.
 const LAST_OFFSET: usize = machine::bytes::PAGE_BYTES - 1;
 
-/// Who does something, in words.
+/// An actor, in words.
 #[derive(Clone, Copy)]
 struct Named(Actor);
 
@@ -30,41 +30,41 @@ impl fmt::Display for Named {
     }
 }
 
-/// Why a command ended with a word that says that it did not do what it was asked for, or why it did not begin. Each is
-/// either known from the command and the word, or says what it can be.
+/// Why a command ended with a word that says that it did not do what it was asked for, or why it did not begin. Each
+/// reason is known from the command and the word, or says what it can be.
 #[derive(Clone, Copy)]
 pub enum Reason<'a> {
     /// The actor has no command under way.
     Idle(Actor),
     /// The actor's command of this line is not answered yet.
     Underway { actor: Actor, line: usize },
-    /// So many turns, which is as many as a line takes, brought no answer.
+    /// This number of turns brought no answer, and a line takes no more.
     TurnLimit(u32),
-    /// The page that an access wants is in transfer, or one that might leave for it.
+    /// The page that an access needs is in transfer, or a page that might be evicted for it is.
     PageOnItsWay,
-    /// No page under the group can be taken, and one is in transfer.
+    /// No page under the group can be reclaimed, and one is in transfer.
     RoomOnItsWay(&'a str),
-    /// A page could not be read in, or none written out for it.
+    /// A page could not be read in, or none could be written out for it.
     AccessFailed,
     /// A page could not be written out.
     WriteFailed,
-    /// There is no room, and nobody who could be killed for it.
+    /// There is no room, and no task that could be killed for it.
     NobodyLeft,
-    /// No page under the group can be taken any more, and none is in transfer.
+    /// No page under the group can be reclaimed any more, and none is in transfer.
     NothingLeft(&'a str),
     /// There is a group of this path.
     GroupThere(&'a str),
-    /// There is no group of this path.
+    /// No group has this path.
     NoGroup(&'a str),
-    /// The same, or it went while the command was under way.
+    /// The same, or it was removed while the command was under way.
     NoGroupNow(&'a str),
-    /// There is no group of this path to be a parent.
+    /// No group has this path, which is the parent's.
     NoParent(&'a str),
     /// No group has a control file of this name.
     NotModelled(&'a str),
-    /// The root has no control file of this name, and other groups do.
+    /// The root has no control file of this name, but other groups have.
     RootLacks(&'a str),
-    /// The second group could not be below the first, wherever they are.
+    /// By their paths, the second group could not be below the first.
     NotBelow { target: &'a str, path: &'a str },
     /// The group has live tasks, so it can have no children.
     HasTasks(&'a str),
@@ -76,9 +76,9 @@ pub enum Reason<'a> {
     RootStays,
     /// The path has more levels than there can be.
     TooDeep(usize),
-    /// There are as many groups as there can be.
+    /// The number of groups is the largest possible.
     GroupsFull,
-    /// As many tasks live as there can be.
+    /// The number of live tasks is the largest possible.
     TasksFull,
     /// No task can have this number.
     NoTaskNumber(u32),
@@ -92,23 +92,23 @@ pub enum Reason<'a> {
     PagePast(u32),
     /// A page has no such offset.
     OffsetPast(u32),
-    /// There is no file of this name.
+    /// No file has this name.
     NoFile(&'a str),
     /// The file has no such page.
     FilePagePast { name: &'a str, page: u32 },
-    /// The text is no amount.
+    /// The text is not an amount.
     NoAmount(&'a str),
     /// The text is more bytes than an amount can be.
     AmountTooLarge(&'a str),
-    /// The text is no flag.
+    /// The text is not a flag.
     NoFlag(&'a str),
     /// `max` is written to `memory.reclaim`.
     MaxReclaimed,
-    /// The control file of this name is read alone.
+    /// The control file of this name can only be read.
     NotWritten(&'a str),
-    /// The control file of this name is written alone.
+    /// The control file of this name can only be written.
     NotRead(&'a str),
-    /// The text is no path of a group.
+    /// The text is not a path of a group.
     NoPath(&'a str),
     /// The trace has no room for what the command does.
     TraceFull,
@@ -232,7 +232,7 @@ impl fmt::Display for Reason<'_> {
     }
 }
 
-/// A name of a control file, in quotes where it is no name at all.
+/// A name of a control file, in quotes if it is not a valid name.
 fn write_name<W: Write>(f: &mut Formatter<W>, name: &str) -> fmt::Result {
     if text_forms::name::is_name(name) {
         return f.write_str(name);

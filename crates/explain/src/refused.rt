@@ -1,4 +1,5 @@
-//! Why a command was refused: from the command, the word that was the answer and the words of its line, and from nothing else.
+//! Why a command was refused: from the command, the word that was the answer and the words of its line, and from
+//! nothing else.
 
 ghost use Rattle.std.specs.Prelude.{◌≡◌, Some, IfSome};
 ghost use Rattle.explain.specs.Reasons.{IsSo, is_task_number, path_in, file_in, text_in, number_in};
@@ -18,7 +19,7 @@ use text_forms::number::is_digits;
 /// Levels below the root, at most.
 const MOST_LEVELS: usize = 16;
 
-/// A command, and where it stands in the script.
+/// A command, and its place in the script.
 #[derive(Clone, Copy)]
 pub struct Told<'a> {
     pub actor: Actor,
@@ -33,10 +34,11 @@ pub struct Told<'a> {
     pub turns: u32,
 }
 
-/// Why this word was the answer to the command, or why another could not begin while it was under way. There is nothing to say
-/// of `killed`, which refuses nothing, of `idle`, which comes of no command, and of a word that never comes of this one.
+/// Why this word was the answer to the command, or why another could not begin while it was under way. There is no
+/// reason for `killed`, which refuses nothing, for `idle`, which answers no command, and for a word that never answers
+/// this one.
 ///
-/// What is told is known from the command and the word; where they leave more than one cause, it says so.
+/// The reason is known from the command and the word. If they leave more than one cause, it says so.
 pub fn reason_of<'a>(told: Told<'a>, word: Word) -> Option<Reason<'a>>
     ensures { IfSome result (IsSo told.entry.actor told.entry.command.now) }
 {
@@ -99,7 +101,7 @@ fn path_of(command: &Command) -> Option<&str>
     }
 }
 
-/// The path of the group above that of a path.
+/// The path of the group above the group of this path.
 fn parent_of(path: &str) -> &str {
     match path.rsplit_once('/') {
         Some(("", _)) | None => "/",
@@ -107,7 +109,7 @@ fn parent_of(path: &str) -> &str {
     }
 }
 
-/// The number of the task that the command is to start, or to move.
+/// The number of the task that the command is to start or to move.
 fn number_of(command: &Command) -> Option<u32>
     ensures { IfSome result (λ number. number_in command.now ≡ Some number) }
 {
@@ -118,7 +120,7 @@ fn number_of(command: &Command) -> Option<u32>
     }
 }
 
-/// A page that the command wants is in transfer.
+/// A page that the command needs is in transfer.
 fn busy<'a>(told: Told<'a>) -> Option<Reason<'a>>
     ensures { IfSome result (IsSo told.entry.actor told.entry.command.now) }
 {
@@ -177,7 +179,7 @@ fn no_file<'a>(told: Told<'a>, file: &'a str) -> Option<Reason<'a>>
     Some(Reason::NoGroup(path))
 }
 
-/// A group whose path goes on behind that of another is below it, if it is there, and then so is the other.
+/// A group whose path continues the path of another is below it, if it exists. Then the other exists, too.
 fn no_target<'a>(told: Told<'a>, target: &'a str, path: &'a str) -> Reason<'a>
     requires { path_in told.command.now ≡ Some path.now }
     ensures { IsSo told.entry.actor told.entry.command.now result }
@@ -211,7 +213,7 @@ fn in_use<'a>(told: Told<'a>) -> Option<Reason<'a>>
     }
 }
 
-/// As many groups, levels or tasks as there can be.
+/// The number of groups, levels or tasks is the largest possible.
 fn no_space<'a>(told: Told<'a>) -> Reason<'a>
     ensures { IsSo told.entry.actor told.entry.command.now result }
 {
@@ -234,7 +236,7 @@ fn is_task_number(number: u32) -> bool
     1 <= number && number <= LAST_TASK
 }
 
-/// No such task lives. What asks for it is a task's own line, or one that moves it.
+/// No such task lives. The command is a task's own line, or one that moves it.
 fn no_task<'a>(told: Told<'a>) -> Option<Reason<'a>>
     ensures { IfSome result (IsSo told.entry.actor told.entry.command.now) }
 {
@@ -261,7 +263,7 @@ fn bad_place<'a>(told: Told<'a>) -> Option<Reason<'a>>
             Place::Virtual { page, offset: _ } if page >= TASK_PAGES => {
                 Some(Reason::PagePast(page))
             }
-            // A file that is none has the number behind all that there can be.
+            // The number of a file that does not exist is after all that there can be.
             Place::File {
                 file,
                 page: _,
@@ -297,7 +299,7 @@ fn name_in(line: &str) -> &str {
     }
 }
 
-/// A number or a text that can't be.
+/// A number or a text that is not possible.
 fn invalid<'a>(told: Told<'a>) -> Option<Reason<'a>>
     ensures { IfSome result (IsSo told.entry.actor told.entry.command.now) }
 {
@@ -355,7 +357,7 @@ fn no_flag<'a>(told: Told<'a>, text: &'a str) -> Option<Reason<'a>>
     }
 }
 
-/// Whether a text is a number as an amount has it, with at most one letter behind it, however large.
+/// Whether a text is a number as an amount has it, of any size, followed by at most one letter.
 fn is_written_out(text: &str) -> bool {
     let digits = text.trim_end_matches(|letter: char| "KMGTkmgt".contains(letter));
     let letters = text.len().saturating_sub(digits.len());

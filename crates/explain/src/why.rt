@@ -4,7 +4,7 @@ use scripts::forms::{Form, Kind};
 use std::fmt;
 use std::fmt::{Formatter, Write};
 
-/// As many characters of a word are shown at most.
+/// At most this many characters of a word are shown.
 const MOST_SHOWN: usize = 64;
 
 /// A word of a line, with its place among the line's words, counted from 1.
@@ -26,7 +26,7 @@ impl fmt::Display for Placed<'_> {
     }
 }
 
-/// What has to stand in a place of this kind.
+/// What is required in a place of this kind.
 #[derive(Clone, Copy)]
 struct Wanted(Kind);
 
@@ -63,7 +63,7 @@ impl fmt::Display for Takes {
     }
 }
 
-/// What makes a path none, or a name.
+/// Why a text is not a path, or not a name.
 #[derive(Clone, Copy)]
 pub enum BadPath<'a> {
     NoSlash,
@@ -102,32 +102,32 @@ pub enum Why<'a> {
     },
     /// The script begins with a mark that is a character.
     ByteOrderMark(Placed<'a>),
-    /// The word is none of the language.
+    /// The language has no such word.
     NoWord(Placed<'a>),
-    /// The word is one of a task's, and no task's number stands before.
+    /// The word is one of a task's, and no task's number comes before it.
     TaskWord(Placed<'a>),
-    /// A task's number stands before, and the word is none of a task's.
+    /// A task's number comes before the word, and a task has no such word.
     NoTaskWord(Placed<'a>),
-    /// The line may not stand behind `begin`.
+    /// The line may not follow `begin`.
     NotBegun(Placed<'a>),
-    /// The word is not what its place asks for.
+    /// The word is not what its place requires.
     Misfit(Placed<'a>, Kind),
-    /// Nothing stands behind a task's number.
+    /// Nothing follows a task's number.
     NoTaskWordAt(usize),
-    /// Nothing stands behind `begin`.
+    /// Nothing follows `begin`.
     NoLineAt(usize),
-    /// Fewer words than the form has. The next would be of this kind.
+    /// The line has fewer words than the form. The next would be of this kind.
     Missing {
         number: usize,
         form: Form,
         kind: Kind,
     },
-    /// More words than the form has, from this one on.
+    /// The line has more words than the form, from this one on.
     Extra(Placed<'a>, Form),
     NotDigits(Placed<'a>, Kind),
     Below(Placed<'a>, u32),
     Above(Placed<'a>, u32),
-    /// The first of the daemon's marks is above the second.
+    /// The first of the daemon's watermarks is above the second.
     MarksTurned(Placed<'a>, Placed<'a>),
     /// The second is above the frames.
     MarkAboveFrames(Placed<'a>, u32),
@@ -145,11 +145,11 @@ pub enum Why<'a> {
     },
     /// This earlier line has a file of the same name.
     FileTwice(Placed<'a>, usize),
-    /// So many files stand before, which is as many as there can be.
+    /// This number of files came before, which is the most that there can be.
     FilesFull(usize),
-    /// So many blocks are as many as there can be.
+    /// This number of blocks is the most that there can be.
     BlocksFull(u32),
-    /// A line with this first word is none of a run on threads.
+    /// A run on threads has no line with this first word.
     OnlyInSchedule(Placed<'a>),
 }
 

@@ -4,8 +4,8 @@
 
 ghost use Rattle.laws.specs.Laws.{RunsAreLegal, RunsAreHonest, NoStrangers, ErrorsAreFailures, EachFailureIsAnswered, TransfersAreInHand, NothingIsLeft, CurrentCountsPages, EventsAreThoseCounted, CountsAreOfTheHistory, ChargesStayWithinMax, OnlyAccessesCharge, KillsComeLast, VictimsHaveTheMostPages, GroupKillsAreWhole, SingleKillsAreUnflagged, KillsAreCounted, ReadsGiveLastWrites, HonestDevicesPassTheAudit, AuditedReadsGaveLastWrites, PagesShareNoFrame, PagesShareNoBlock, BlocksAreThere, PagesShareNoTicket, FilePagesStayAtHome, FilePagesAreOne, OnlyCleanPagesAreDropped, StatAddsUpToCurrent, MappingsShowPages, MemoryWithoutAMappingIsGone, SharedBytesAgree, ForksShare, MovesTakeNoCharge, RemovalsKeepAncestorsCounts, RemovedGroupsHaveNoPages, RootIsNeverFlagged, OnlySetsChangeSettings, TraceHasRoom, TransfersAreBegunLessEnded, TransfersStayCharged, RepliesAreSettled, OrdersAreSettled, WriteOutsStayCharged, ReclaimsSpareTheProtected, SharesStayWithin, LowsComeLast, LowsAreCounted, LowsKillNobody, ReclaimsGiveUpLast, ReclaimsKillNobody, HeldPagesAreListed, GenerationsHold, GroupsHaveCursors, HeldPagesGoOn, OnlyTakesAge, HitsMark, OnlyHitsMark, OnlyMergesMark, MergesChangeMarksAlone, MergesAreServed, PagesLeaveInOrder, MarkedPagesStay, GroupsAreThere};
 
-/// The history of every run is legal: it leads from the opening to the run's state, and each entry is one
-/// step of the plain machine. So what holds of each step, and of each legal history, holds of every run.
+/// The history of every run is legal: it leads from the opening to the run's state, and each entry is one step of the
+/// plain machine. Therefore what holds of each step, and of each legal history, holds of every run.
 pub fn runs_are_legal()
     ensures { RunsAreLegal }
 {}
@@ -21,20 +21,19 @@ pub fn no_strangers()
     ensures { NoStrangers }
 {}
 
-/// The number of answers `EIO` of a run is at most that of failed calls of the device. So a device without
-/// faults gives none.
+/// The number of answers `EIO` of a run is at most the number of failed calls of the device. A device without faults
+/// therefore gives none.
 pub fn errors_are_failures()
     ensures { ErrorsAreFailures }
 {}
 
-/// The number of answers `EIO` of a run, with those that commands under way still owe, is exactly that of
-/// failed calls of the device. (This excludes a failure that is never answered, and one that is answered
-/// twice.)
+/// The number of answers `EIO` of a run, with those that commands under way still owe, is exactly the number of failed
+/// calls of the device. This excludes a failure that is never answered, and one that is answered twice.
 pub fn each_failure_is_answered()
     ensures { EachFailureIsAnswered }
 {}
 
-/// After any run the number of pages in transfer is that of commands under way with a ticket in hand.
+/// After any run the number of pages in transfer is the number of commands under way with a ticket in hand.
 pub fn transfers_are_in_hand()
     ensures { TransfersAreInHand }
 {}
@@ -56,8 +55,8 @@ pub fn write_outs_stay_charged()
     ensures { WriteOutsStayCharged }
 {}
 
-/// The number that `memory.current` shows is that of the pages with frames in the group and below it.
-/// (Unfolds `shown_of`.)
+/// The number that `memory.current` shows is the number of pages with frames in the group and below it. (Unfolds
+/// `shown_of`.)
 pub fn current_counts_pages()
     ensures { CurrentCountsPages }
 {}
@@ -68,10 +67,9 @@ pub fn event_files_show_what_was_counted()
     ensures { EventsAreThoseCounted }
 {}
 
-/// Each number that is counted is that of the events that the history counted, and of nothing else. These
-/// events can be listed entry by entry: a charge that a group's max refused, a page reclaimed from a group
-/// within its low, a kill, a relief without a victim. By every such list, each key was counted at each group
-/// once for each of its places in the list.
+/// Each count is the number of the events that the history counted, and of nothing else. These events can be listed
+/// entry by entry: a charge that a group's max refused, a page reclaimed from a group within its low, a kill, a relief
+/// without a victim. By every such list, each key was counted at each group once for each of its places in the list.
 pub fn counts_are_of_the_history()
     ensures { CountsAreOfTheHistory }
 {}
@@ -83,8 +81,8 @@ pub fn charges_stay_within_max()
     ensures { ChargesStayWithinMax }
 {}
 
-/// In a state that a legal history leads to, only an access raises the number of pages charged to a group.
-/// So, by `charges_stay_within_max`, a count that rises stays within the max, whatever the event.
+/// In a state that a legal history leads to, only an access raises the number of pages charged to a group. Therefore,
+/// by `charges_stay_within_max`, a count that rises stays within the max, whatever the event.
 pub fn only_accesses_charge()
     ensures { OnlyAccessesCharge }
 {}
@@ -103,17 +101,16 @@ pub fn victims_have_the_most_pages()
     ensures { VictimsHaveTheMostPages }
 {}
 
-/// In a state that a legal history leads to: if a group is killed as one, all live tasks in it and below it
-/// die and map nothing afterwards. The victim is one of them, and the answer has their number. No other task
-/// changes, nor what it maps. The group is at or below the limit group and has the flag `memory.oom.group`.
-/// No group between the two has it, nor has the limit group, unless that is the group.
+/// In a state that a legal history leads to: if a group is killed as one, all live tasks in it and below it die. They
+/// map nothing afterwards. The victim is one of them, and the answer has their number. No other task changes, nor what
+/// it maps. The group is at or below the limit group and has the flag `memory.oom.group`. No group between the two has
+/// it, nor has the limit group, unless that is the group.
 pub fn group_kills_are_whole()
     ensures { GroupKillsAreWhole }
 {}
 
-/// In such a state a task is killed alone only if no group from its own up to the limit group, both included,
-/// has the flag. No other task changes. (This excludes a group with the flag whose tasks are killed one by
-/// one.)
+/// In such a state a task is killed alone only if no group from its own up to the limit group, both included, has the
+/// flag. No other task changes. This excludes a group with the flag whose tasks are killed one by one.
 pub fn single_kills_are_unflagged()
     ensures { SingleKillsAreUnflagged }
 {}
@@ -131,30 +128,30 @@ pub fn reclaims_spare_the_protected()
     ensures { ReclaimsSpareTheProtected }
 {}
 
-/// A page of a group below the target that uses no more than its effective `memory.low` is reclaimed only if
-/// each page that can be reclaimed is of such a group. (This excludes that it is reclaimed while another page
-/// is left that no low protects, of another group or of the target itself. Unfolds `is_next`.)
+/// A page of a group below the target that uses no more than its effective `memory.low` is reclaimed only if each page
+/// that can be reclaimed is of such a group. This excludes that it is reclaimed while another page is left that no low
+/// protects, of another group or of the target itself. (Unfolds `is_next`.)
 pub fn lows_come_last()
     ensures { LowsComeLast }
 {}
 
-/// If a page of a group within its effective `memory.low` is reclaimed, `low` is counted once at that group,
-/// and nothing else is. If another page is reclaimed, nothing is counted. No other event counts `low`. (This
-/// excludes a count at the target, and one for each group that is passed over.)
+/// If a page of a group within its effective `memory.low` is reclaimed, `low` is counted once at that group, and
+/// nothing else is. If another page is reclaimed, nothing is counted. No other event counts `low`. This excludes a
+/// count at the target, and one for each group that is passed over.
 pub fn lows_are_counted()
     ensures { LowsAreCounted }
 {}
 
-/// If a relief kills a task or a group, nothing under its limit group could be reclaimed with any other lows
-/// either, and nothing there is in transfer. (This excludes a kill for a page that a low protects.)
+/// If a relief kills a task or a group, nothing under its limit group could be reclaimed with any other lows either,
+/// and nothing there is in transfer. This excludes a kill for a page that a low protects.
 pub fn lows_kill_nobody()
     ensures { LowsKillNobody }
 {}
 
-/// In a state that a legal history leads to: if the effective min, or low, of a group below a reclaim's
-/// target is a number of pages, so is that of each live child. Together these are no more than the group's,
-/// with recursive protection and without. (This excludes shares that are rounded up, and children that get
-/// their full claim if that is more than there is.)
+/// In a state that a legal history leads to, let the effective min, or low, of a group below a reclaim's target be a
+/// number of pages. Then the effective min, or low, of each live child is a number of pages too. Together these are no
+/// more than the group's, with recursive protection and without. This excludes shares that are rounded up, and children
+/// that get their full claim if that is more than there is.
 pub fn shares_stay_within()
     ensures { SharesStayWithin }
 {}
@@ -188,12 +185,11 @@ pub fn groups_have_cursors()
     ensures { GroupsHaveCursors }
 {}
 
-/// A call that changes anything and reclaims no page leaves the lists as follows. A page that is no longer
-/// resident leaves its list, and all others keep their places. At most one page becomes resident. It enters
-/// the generation of the placement if it was read in, else the youngest, and is not marked. A merge of marks
-/// moves no page, and a new group's lists are empty. The pages of a removed group are on its parent's lists,
-/// after those of the second youngest generation, the oldest first, and marked as they were. (Unfolds
-/// `Orders`.)
+/// A call that changes anything and reclaims no page leaves the lists as follows. A page that is no longer resident
+/// leaves its list, and all others keep their places. At most one page becomes resident. It enters the generation of
+/// the placement if it was read in, and the youngest otherwise, and is not marked. A merge of marks moves no page, and
+/// a new group's lists are empty. The pages of a removed group are on its parent's lists, after those of the second
+/// youngest generation, the oldest first, and marked as they were. (Unfolds `Orders`.)
 pub fn held_pages_go_on()
     ensures { HeldPagesGoOn }
 {}
@@ -203,8 +199,8 @@ pub fn only_takes_age()
     ensures { OnlyTakesAge }
 {}
 
-/// Whatever a run led to, a turn whose access is answered by a hit leaves that page marked. With `--as-linux`
-/// this does not hold of an access to a file that had its page read in.
+/// After any run, a turn whose access is answered by a hit leaves that page marked. With `--as-linux` this does not
+/// hold of an access to a file for which the page was read in.
 pub fn hits_mark()
     ensures { HitsMark }
 {}
@@ -232,15 +228,15 @@ pub fn merges_are_served()
     ensures { MergesAreServed }
 {}
 
-/// Whatever a run led to, a page that a call reclaims is of the group whose turn it is for that target. Of
-/// that group's pages it is the one that is evicted next. The lists go on without it as the search left them,
-/// and the target's cursor then names the group.
+/// After any run, a page that a call reclaims is of the group whose turn it is for that target. It is the page of that
+/// group that is evicted next. The lists are those that the search left, without the page, and the target's cursor then
+/// names the group.
 pub fn pages_leave_in_order()
     ensures { PagesLeaveInOrder }
 {}
 
-/// Whatever a run led to, a marked page is reclaimed only if each page of its group that can be reclaimed is
-/// marked, or in one of the group's two youngest generations.
+/// After any run, a marked page is reclaimed only if each page of its group that can be reclaimed is marked, or in one
+/// of the group's two youngest generations.
 pub fn marked_pages_stay()
     ensures { MarkedPagesStay }
 {}
@@ -314,14 +310,14 @@ pub fn mappings_show_pages()
     ensures { MappingsShowPages }
 {}
 
-/// In a state that a legal history leads to, each page of memory that is in no transfer is mapped by a
-/// virtual page of a live task. So it goes with its last mapping, or at the end of its transfer.
+/// In a state that a legal history leads to, each page of memory that is in no transfer is mapped by a virtual page of
+/// a live task. Therefore it ceases to exist with its last mapping, or at the end of its transfer.
 pub fn memory_without_a_mapping_is_gone()
     ensures { MemoryWithoutAMappingIsGone }
 {}
 
-/// In a state that a legal history leads to, two virtual pages that map one page have the same last write at
-/// each offset. (This excludes a shared page that is written in place, with the write in only one of them.)
+/// In a state that a legal history leads to, two virtual pages that map one page have the same last write at each
+/// offset. This excludes a shared page that is written in place, with the write in only one of them.
 pub fn shared_bytes_agree()
     ensures { SharedBytesAgree }
 {}
@@ -339,26 +335,26 @@ pub fn moves_take_no_charge()
     ensures { MovesTakeNoCharge }
 {}
 
-/// In a state that a legal history leads to, the removal of a group leaves the count of every other group as
-/// it was, so of each above it. Each number of `memory.events` stays, at each group, and at and below it.
+/// In a state that a legal history leads to, the removal of a group leaves the count of every other group as it was,
+/// and therefore of each above it. Each number of `memory.events` stays, at each group, and at and below it.
 pub fn removals_keep_ancestors_counts()
     ensures { RemovalsKeepAncestorsCounts }
 {}
 
-/// In a state that a legal history leads to, a group that does not exist has no page: none in a frame, in
-/// transfer or on its block. Nothing is charged to it. So all pages of a group go elsewhere with its removal.
+/// In a state that a legal history leads to, a group that does not exist has no page: none in a frame, in transfer or
+/// on its block. Nothing is charged to it. Therefore all pages of a group leave it when it is removed.
 pub fn removed_groups_have_no_pages()
     ensures { RemovedGroupsHaveNoPages }
 {}
 
-/// In a state that a legal history leads to, the entries and the pages in transfer are together no more than
-/// the trace's limit. So each transfer has room for the entry of its end.
+/// In a state that a legal history leads to, the entries and the pages in transfer are together no more than the
+/// trace's limit. Therefore each transfer has room for the entry of its end.
 pub fn trace_has_room()
     ensures { TraceHasRoom }
 {}
 
-/// In a state that a legal history leads to, the number of pages in transfer is that of the entries that
-/// began a transfer, less those that ended one.
+/// In a state that a legal history leads to, the number of pages in transfer is the number of entries that began a
+/// transfer, less those that ended one.
 pub fn transfers_are_begun_less_ended()
     ensures { TransfersAreBegunLessEnded }
 {}
@@ -368,29 +364,29 @@ pub fn groups_are_there()
     ensures { GroupsAreThere }
 {}
 
-/// In a state that a legal history leads to, the root's `memory.oom.group` is not set. So the root is never
+/// In a state that a legal history leads to, the root's `memory.oom.group` is not set. Therefore the root is never
 /// killed as one.
 pub fn root_is_never_flagged()
     ensures { RootIsNeverFlagged }
 {}
 
-/// A group has each max, min, low and flag after a step that it had before, or the step is the `Set` of that
-/// setting at that group. So no kill, move, removal or other setting changes one, and a removed group's
-/// number keeps its own. In a state that a legal history leads to, a new group begins with no max, no
-/// protection and no flag. A `Set` that nothing refuses leaves the group with what it sets.
+/// A group has each max, min, low and flag after a step that it had before, unless the step is the `Set` of that
+/// setting at that group. Therefore no kill, move, removal or other setting changes one, and a removed group's number
+/// keeps its own. In a state that a legal history leads to, a new group begins with no max, no protection and no flag.
+/// A `Set` that nothing refuses leaves the group with what it sets.
 pub fn only_sets_change_settings()
     ensures { OnlySetsChangeSettings }
 {}
 
-/// Two answers to one event of one caller from one past, neither for lack of memory, differ at most in the
-/// numbers of new tickets and in the byte of a read. That byte is the one last written. So the definitions
-/// leave no other answer open.
+/// Two answers to one event of one caller from one past, neither for lack of memory, differ at most in the numbers of
+/// new tickets and in the byte of a read. That byte is the one last written. Therefore the definitions leave no other
+/// answer open.
 pub fn replies_are_settled()
     ensures { RepliesAreSettled }
 {}
 
-/// Two calls of one caller from one past that answer one event alike and leave one state leave the same
-/// lists, marks and cursors. So, with the state, nothing of the order is left open.
+/// Two calls of one caller from one past that answer one event alike and leave one state leave the same lists, marks
+/// and cursors. Therefore, with the state, nothing of the order is left open.
 pub fn orders_are_settled()
     ensures { OrdersAreSettled }
 {}

@@ -1,4 +1,4 @@
-//! Which lists of files there can be.
+//! Which lists of files are possible.
 
 use files::blocks_for;
 use machine::config::{Config, File, FileList, Placement, Watermarks};
@@ -11,7 +11,7 @@ fn add(alloc: Global, files: &mut FileList, name: &str, pages: u32) -> Result<()
     files.push(File { name, pages })
 }
 
-/// So many files of one page each, named f0, f1 and so on.
+/// This number of files of one page each, named f0, f1 and so on.
 fn many(alloc: Global, count: u32) -> Result<FileList, AllocError> {
     let mut files = FileList::new(alloc);
     for number in 0..count {
@@ -42,7 +42,7 @@ fn named(alloc: Global, name: &str) -> Result<Option<u32>, AllocError> {
     Ok(blocks(0, files))
 }
 
-/// Likewise with two files of so many pages, and so much swap.
+/// The same with two files of these numbers of pages, and with this swap.
 fn sized(alloc: Global, swap: u32, a: u32, b: u32) -> Result<Option<u32>, AllocError> {
     let mut files = FileList::new(alloc);
     add(alloc, &mut files, "a", a)?;

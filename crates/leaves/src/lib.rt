@@ -1,5 +1,5 @@
-//! What no clause says of the crates that stand on few others, as tests, a file for each. They stand here and not in
-//! the crates, since a crate with tests is proved twice.
+//! Tests of what no clause says about the crates that use few others, a file for each. They are here and not in the
+//! crates, since a crate with tests is proved twice.
 #![tactic(auto)]
 
 #[cfg(test)]

@@ -1,4 +1,4 @@
-//! Generation lists, and plain vectors after the same calls.
+//! Generation lists, compared with plain vectors after the same calls.
 
 ghost use Rattle.std.specs.Prelude.{◌≡◌, length, nat_lt};
 
@@ -31,7 +31,7 @@ fn the_merged_pages_come_first(rt: HostRuntime) -> Result<(), Fail> {
     Ok(())
 }
 
-// A group may give a file page always, and an anonymous one where a swap block is free.
+// A file page of a group may always be reclaimed, and an anonymous one if a swap block is free.
 #[test]
 fn anonymous_pages_are_usable_with_a_swap_block(rt: HostRuntime) -> Result<(), Fail> {
     let mut gens = Gens::open(rt.alloc(), 16)?;
@@ -74,7 +74,8 @@ fn a_type_is_usable_while_it_has_a_page(rt: HostRuntime) -> Result<(), Fail> {
         isolate(&mut gens, PageId(7));
         assert!(rt; !is_usable(&gens, root, kind));
         add(&mut gens, root, PageId(7), kind, 3);
-        // What goes over is one group's and then the other's; a group with no page takes none from one that has some.
+        // The pages move from one group to the other and back. A group without pages takes none away from one that has
+        // some.
         for (from, to) in [(root, child), (root, child), (child, root)] {
             take_over(&mut gens, from, to);
             assert!(rt; !is_usable(&gens, from, kind));
@@ -118,8 +119,9 @@ enum Call {
     TakeOver,
 }
 
-// After each of so many calls the pages stand as in plain vectors, one for each generation that ever was, after the same
-// calls: as `first` and `after` tell them, and along the stored links of each list both ways.
+// After each of this number of calls the pages are the same as in plain vectors after the same calls. There is a vector
+// for each generation that ever was. The pages are read by `first` and `after`, and along the stored links of each list
+// both ways.
 #[test]
 fn mixed_calls_match_plain_vectors(rt: HostRuntime) -> Result<(), Fail> {
     let mut gens = Gens::open(rt.alloc(), PAGES)?;
@@ -163,7 +165,7 @@ fn mixed_calls_match_plain_vectors(rt: HostRuntime) -> Result<(), Fail> {
     Ok(())
 }
 
-// The call that these bits name, made of both where it may be made.
+// The call that these bits name, made on both if it may be made.
 fn call_both(
     alloc: Global,
     gens: &mut Gens,
@@ -211,7 +213,7 @@ fn call_both(
     }
 }
 
-// Each type of each group has the pages of the plain vectors, and may give one where they have one.
+// Each type of each group has the pages of the plain vectors, and is usable if they have one.
 fn rows_match(
     rt: &impl Abort,
     alloc: Global,
@@ -236,7 +238,7 @@ fn rows_match(
     Ok(())
 }
 
-// The stored links go round each list, and name its pages in order both ways.
+// The stored links form a ring for each list, and name its pages in order both ways.
 fn links_match(rt: &impl Abort, alloc: Global, gens: &Gens, plain: &Plain) -> Result<(), Fail> {
     for group in 0..GROUPS {
         let group = GroupId(group);
@@ -260,7 +262,7 @@ fn links_match(rt: &impl Abort, alloc: Global, gens: &Gens, plain: &Plain) -> Re
     Ok(())
 }
 
-// Which neighbour of each node comes next in a walk round a list.
+// Which neighbour of each node comes next in a walk around a list.
 #[derive(Clone, Copy)]
 enum Way {
     Forth,
@@ -335,7 +337,7 @@ impl Plain {
         }
     }
 
-    // The pages of this generation come in front of those of the next.
+    // The pages of this generation come before those of the next.
     fn merge(
         &mut self,
         alloc: Global,
@@ -353,7 +355,7 @@ impl Plain {
         Ok(())
     }
 
-    // The pages of four generations come behind those of another group's generation.
+    // The pages of four generations come after those of another group's generation.
     fn take_over(
         &mut self,
         alloc: Global,
@@ -416,7 +418,7 @@ fn has_group(gens: &Gens, group: GroupId) -> bool
     (group.0 as usize) < gens.groups()
 }
 
-// The calls, where they may be made.
+// The calls, if they may be made.
 fn add(gens: &mut Gens, group: GroupId, page: PageId, kind: Kind, seq: u64) -> bool {
     if !has_group(gens, group) || page.0 as usize >= gens.pages() || gens.is_listed(page) {
         return false;
@@ -491,7 +493,7 @@ fn has_usable(gens: &Gens, group: GroupId, swap_free: bool) -> bool {
     has_group(gens, group) && gens.has_usable(group, swap_free)
 }
 
-// Of a group that has no page of the other type.
+// For a group that has no page of the other type.
 fn is_usable(gens: &Gens, group: GroupId, kind: Kind) -> bool {
     has_usable(gens, group, kind == Kind::Anon)
 }
@@ -512,7 +514,7 @@ fn max_seq(gens: &Gens, group: GroupId) -> u64 {
     }
 }
 
-// The pages of a type, by the first and what comes after each.
+// The pages of a type, from the first, and then the page after each.
 fn walk(alloc: Global, gens: &Gens, group: GroupId, kind: Kind) -> Result<Vec<u32>, AllocError> {
     let mut pages = Vec::new(alloc);
     if !has_group(gens, group) {

@@ -1,4 +1,4 @@
-//! What no clause says: each call once, threads that really run at the same time, and a caller who is alone.
+//! What no clause says: each call once, threads that really run at the same time, and a caller that is alone.
 
 ghost use Rattle.std.specs.Prelude.{◌≡◌, ℕ, ◌+◌, ◌/◌, ◌%◌, ◌^◌, ◌<◌, ◌≤◌, ◌==◌, if◌then◌else◌, All, OnOk};
 ghost use Rattle.std.specs.Int.{bit_at};
@@ -226,8 +226,8 @@ fn two_seats_see_one_mark(rt: HostRuntime) -> Result<(), Fail> {
     Ok(())
 }
 
-/// The marks that a harvest takes right after a set. Where nobody else sets or harvests, and nothing was
-/// left, it is that of this frame alone.
+/// The marks that a harvest takes right after a set. If no other caller sets or harvests, and nothing was left, they
+/// are the mark of this frame alone.
 fn mark_alone(marks: &Marks, seat: &mut Seat, frame: u32) -> u64
     requires in_range { frame < marks.now.frames }
     requires of_these { seat.old.table ≡ marks.now.table }

@@ -1,4 +1,4 @@
-//! Lists of pages, and plain vectors after the same calls.
+//! Lists of pages, compared with plain vectors after the same calls.
 
 use machine::id::PageId;
 use rings::{ListId, RingNode, Rings};
@@ -36,7 +36,7 @@ const LISTS: u32 = 4;
 
 const NUMBERS: u32 = 32;
 
-// After each of so many calls the lists are as vectors are after the same calls.
+// After each of this number of calls the lists are as vectors are after the same calls.
 #[test]
 fn mixed_calls_match_plain_vectors(rt: HostRuntime) -> Result<(), Fail> {
     let mut rings = Rings::open(rt.alloc(), NUMBERS)?;
@@ -90,7 +90,7 @@ fn mixed_calls_match_plain_vectors(rt: HostRuntime) -> Result<(), Fail> {
     Ok(())
 }
 
-// The calls, where they may be made.
+// The calls, if they may be made.
 fn push_back(rings: &mut Rings, list: u32, page: PageId) {
     let there = list < rings.len() && page.0 < rings.numbers();
     if there && !rings.is_listed(page) {
@@ -124,7 +124,7 @@ fn before(rings: &Rings, page: PageId) -> Option<PageId> {
     rings.before(page)
 }
 
-// The pages of a list, by its front and what comes after each.
+// The pages of a list, from its front, and then the page after each.
 fn forth(alloc: Global, rings: &Rings, list: ListId) -> Result<Vec<u32>, AllocError> {
     let mut pages = Vec::new(alloc);
     if list.0 >= rings.len() {
@@ -158,7 +158,7 @@ fn back(alloc: Global, rings: &Rings, list: ListId) -> Result<Vec<u32>, AllocErr
     Ok(pages)
 }
 
-// The source's pages come to the target's, which are then those of the two lists in this order.
+// The source's pages move to the target, which then has those of the two lists in this order.
 fn splice_plain(
     alloc: Global,
     plain: &mut Vec<Vec<u32>>,

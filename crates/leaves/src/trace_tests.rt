@@ -25,7 +25,7 @@ fn page_of_a_task(page: u32) -> Place {
     Place::Virtual { page, offset: 0 }
 }
 
-/// A trace for so many entries, of a machine with one file of eight pages and memory for tasks 1 and 2.
+/// A trace for this number of entries, of a machine with one file of eight pages and memory for tasks 1 and 2.
 fn opened(alloc: Global, limit: usize) -> Result<Trace, AllocError> {
     if limit > 1_048_576 {
         return Err(AllocError);
@@ -37,7 +37,7 @@ fn opened(alloc: Global, limit: usize) -> Result<Trace, AllocError> {
     Ok(trace)
 }
 
-/// The entry at the end, where there is room.
+/// Adds the entry at the end, if there is room.
 fn add(trace: &mut Trace, entry: Entry) {
     if trace.len() < trace.limit() {
         trace.push(entry);
@@ -128,7 +128,8 @@ fn arrived(alloc: Global, ticket: u32, offset: usize, byte: u8) -> Result<Entry,
     ))
 }
 
-/// A page whose first byte is 5 goes out and comes in again with this byte at an offset, zeros at the others.
+/// A page whose first byte is 5 is written out. It is read in again with this byte at an offset, and zeros at the
+/// others.
 fn out_and_in(alloc: Global, offset: usize, byte: u8) -> Result<Trace, AllocError> {
     let mut trace = opened(alloc, 8)?;
     add(&mut trace, spawned(1));
@@ -180,7 +181,7 @@ fn a_device_that_keeps_its_bytes_passes(rt: HostRuntime) -> Result<(), Fail> {
     Ok(())
 }
 
-// The read behind it, of the same byte, gave what was written.
+// The read after it, of the same byte, gave what was written.
 #[test]
 fn a_device_that_adds_one_is_found_at_the_arrival(rt: HostRuntime) -> Result<(), Fail> {
     let trace = out_and_in(rt.alloc(), 0, 6)?;
@@ -195,7 +196,7 @@ fn the_last_byte_of_a_page_counts(rt: HostRuntime) -> Result<(), Fail> {
     Ok(())
 }
 
-// Nobody asked for it.
+// No entry asked for it.
 #[test]
 fn an_arrival_without_a_read_in_is_wrong(rt: HostRuntime) -> Result<(), Fail> {
     let mut trace = opened(rt.alloc(), 4)?;
@@ -264,7 +265,7 @@ fn a_new_task_reads_zeros(rt: HostRuntime) -> Result<(), Fail> {
     Ok(())
 }
 
-// The file had what came first, and another page of it, of which none came, had zeros.
+// The file had what arrived first. Another page of it, of which nothing arrived, had zeros.
 #[test]
 fn a_file_begins_as_it_first_arrived(rt: HostRuntime) -> Result<(), Fail> {
     let mut trace = opened(rt.alloc(), 8)?;
@@ -297,7 +298,7 @@ fn a_file_that_arrives_otherwise_the_second_time_is_named(rt: HostRuntime) -> Re
     Ok(())
 }
 
-// What one task writes to a file, another reads, and the device has to bring it.
+// What one task writes to a file, another reads. The device has to bring it.
 #[test]
 fn a_file_is_the_same_for_all_tasks(rt: HostRuntime) -> Result<(), Fail> {
     let mut trace = opened(rt.alloc(), 9)?;
@@ -315,7 +316,7 @@ fn a_file_is_the_same_for_all_tasks(rt: HostRuntime) -> Result<(), Fail> {
     Ok(())
 }
 
-// Eight pages are written, and then read by turns.
+// Eight pages are written, and then read in round-robin order.
 #[test]
 fn many_hits(rt: HostRuntime) -> Result<(), Fail> {
     let mut trace = opened(rt.alloc(), 302)?;
@@ -342,8 +343,8 @@ fn many_hits(rt: HostRuntime) -> Result<(), Fail> {
     Ok(())
 }
 
-/// Six hundred reads of one place by a task, behind what a parent and its child did: the parent, before the child was,
-/// wrote two bytes of one page and one of each of two others, of which it freed one; and then a byte of the file.
+/// Six hundred reads of one place by a task. Before these, the parent wrote two bytes of one page and one byte of each
+/// of two others, and freed one of these. Then it forked the child, and wrote a byte of the file.
 fn reads(
     alloc: Global,
     [parent, child]: [u32; 2],
@@ -377,8 +378,9 @@ fn quickest(clock: &impl Clock, trace: &Trace) -> Result<u128, Fail> {
     Ok(least)
 }
 
-// No contract says that a link is known. With memory for the tasks each read's is, and the audit is quick: where it
-// isn't known, the walk goes back through all reads, as it does for the tasks 3 and 4, which have no memory.
+// No contract says that a link is known. With memory for the tasks, the link of each read is known, and the audit is
+// quick. If it isn't known, the walk goes back through all reads. This is so for the tasks 3 and 4, which have no
+// memory.
 #[test]
 fn links_make_audits_quick(rt: HostRuntime) -> Result<(), Fail> {
     let slow = quickest(&rt, &reads(rt.alloc(), [3, 4], 3, FIRST, 5)?)?;
@@ -398,7 +400,7 @@ fn links_make_audits_quick(rt: HostRuntime) -> Result<(), Fail> {
     Ok(())
 }
 
-// A task of the number of one that ended or was killed begins with zeros, and no memory was asked for its links.
+// A task with the number of one that ended or was killed begins with zeros. No memory was asked for its links.
 #[test]
 fn a_number_of_a_task_that_ended_is_audited(rt: HostRuntime) -> Result<(), Fail> {
     let mut trace = opened(rt.alloc(), 11)?;

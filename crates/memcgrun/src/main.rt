@@ -1,6 +1,6 @@
-//! `memcgrun schedule FILE` runs a script of memory control groups and prints its answers; `memcgrun run FILE` runs one on
-//! threads; `memcgrun chart FILE` draws what its groups are charged with; `memcgrun check FILE..` holds what scripts
-//! print against what they expect.
+//! `memcgrun schedule FILE` runs a script of memory control groups and prints its answers. `memcgrun run FILE` runs one
+//! on threads. `memcgrun chart FILE` draws what its groups are charged with. `memcgrun check FILE..` compares what
+//! scripts print with what they expect.
 #![tactic(auto)]
 
 mod told;
@@ -26,7 +26,7 @@ const FAILED: u8 = 1;
 
 const BAD_WORDS: u8 = 2;
 
-/// The file of this name. Where there is none, or it is a directory, a line says so.
+/// The file of this name. If it does not exist, or is a directory, a line says so.
 fn open<R: Files, E: Write>(rt: &R, name: &str, err: &mut E) -> Option<R::File> {
     match File::open(rt, name) {
         Ok(file) => match file.metadata() {
@@ -50,7 +50,7 @@ struct Terminals {
     err: bool,
 }
 
-/// Runs the script. Where it is not run to its end, a line says why.
+/// Runs the script. If it is not run to its end, a line says why.
 fn run<R: Threads + Wait + Sync + AllocGlobal, I: Read, O: Write, E: Write>(
     rt: &R,
     request: Request<'_>,
@@ -88,8 +88,8 @@ fn run<R: Threads + Wait + Sync + AllocGlobal, I: Read, O: Write, E: Write>(
     }
 }
 
-/// What is shown of how far a run has come is shown on a terminal alone. Answers go out in blocks, all of them
-/// before anything is told; but as they come to a terminal, and where somebody watches the run.
+/// Progress is shown only on a terminal. Answers are written in blocks, all of them before any message. They are
+/// written as they come to a terminal, or if progress is asked for.
 fn serve<R: Files + AllocGlobal + Threads + Wait + Sync, O: Write, E: Write>(
     rt: &R,
     mut request: Request<'_>,
@@ -105,7 +105,7 @@ fn serve<R: Files + AllocGlobal + Threads + Wait + Sync, O: Write, E: Write>(
     let as_they_come = terminals.out || request.is_unbuffered || request.options.progress;
     request.options.progress = request.options.progress && terminals.err;
     if !as_they_come {
-        // With no memory for a block they go out as they come, too.
+        // If there is no memory for a block, they are written as they come, too.
         if let Ok(mut blocks) = BufWriter::new(rt.alloc(), &mut *out) {
             return run(rt, request, &mut script, &mut blocks, err);
         }
@@ -113,7 +113,7 @@ fn serve<R: Files + AllocGlobal + Threads + Wait + Sync, O: Write, E: Write>(
     run(rt, request, &mut script, out, err)
 }
 
-/// Checks the scripts of these files, one after the other, whatever comes of those before.
+/// Checks the scripts of these files, one after the other, whatever the results of those before.
 fn check_all<R: Files + AllocGlobal, O: Write, E: Write>(
     rt: &R,
     placement: Placement,
@@ -138,7 +138,7 @@ fn given_words<R: Env + AllocGlobal>(rt: &R) -> io::Result<Vec<String>> {
     Ok(env::args(rt)?.collect(rt.alloc())?)
 }
 
-/// Writes what was asked for. The status is 0, or 1 where it can't be written.
+/// Writes what was asked for. The status is 0, or 1 if it can't be written.
 fn show<O: Write, E: Write>(out: &mut O, err: &mut E, text: &clap::Error) -> u8
     ensures success_or_failure { result ≤ 1 }
 {
@@ -151,8 +151,8 @@ fn show<O: Write, E: Write>(out: &mut O, err: &mut E, text: &clap::Error) -> u8
     FAILED
 }
 
-/// The status: 0 for a script that was run and for help and the version, 1 for a script that wasn't
-/// run, 2 for words that ask for nothing.
+/// The status: 0 for a script that was run, for help and for the version; 1 for a script that wasn't run; 2 for words
+/// that ask for nothing.
 fn start<R: Env + Files + AllocGlobal + Threads + Wait + Sync, O: Write, E: Write>(
     rt: &R,
     terminals: Terminals,
@@ -177,7 +177,7 @@ fn start<R: Env + Files + AllocGlobal + Threads + Wait + Sync, O: Write, E: Writ
         Ok(Asked::Check(placement, files)) => check_all(rt, placement, &files, out, err),
         Err(Refused::Text(text)) if !text.use_stderr() => show(out, err, &text),
         Err(Refused::Text(text)) => {
-            // The status tells of the failure even where its text can't be written.
+            // The status reports the failure even if its text can't be written.
             let _ = write!(err, "{text}");
             BAD_WORDS
         }

@@ -1,5 +1,5 @@
-//! The lines of standard error for what was given on the command line. Each names it, in quotes and with
-//! its control characters written out.
+//! The lines of standard error about the words of the command line. Each line names the word, in quotes and with its
+//! control characters written out.
 
 use std::alloc::{AllocError, Global};
 use std::env::FillError;
@@ -7,10 +7,10 @@ use std::io::{ErrorKind, Write};
 use std::rt::Env;
 use std::{io, str};
 
-/// As many bytes of a word that is not UTF-8 are shown at most.
+/// At most this many bytes of a word that is not UTF-8 are shown.
 const WORD_BYTES: usize = 4096;
 
-/// The name of a file as the lines about its script begin with it: as it is, and in quotes where it has control characters.
+/// The name of a file as the lines about its script begin with it: as it is, or in quotes if it has control characters.
 pub fn plain_name(alloc: Global, name: &str) -> Result<String, AllocError> {
     if name.chars().any(|found| found.is_control()) {
         return format!(in alloc; "{name:?}");
@@ -18,15 +18,15 @@ pub fn plain_name(alloc: Global, name: &str) -> Result<String, AllocError> {
     String::from_str(alloc, name)
 }
 
-/// The program got no memory before a script was run.
+/// Reports that the program got no memory before a script was run.
 pub fn tell_no_memory<E: Write>(err: &mut E) {
-    // The status tells of the failure even where its line can't be written.
+    // The status reports the failure even if its line can't be written.
     let _ = writeln!(err, "memcgrun: out of memory");
 }
 
-/// A file that gives no script.
+/// Reports a file that gives no script.
 pub fn tell_no_script<E: Write>(err: &mut E, name: &str, error: &io::Error) {
-    // The status tells of the failure even where its line can't be written.
+    // The status reports the failure even if its line can't be written.
     let _ = match error.kind() {
         ErrorKind::NotFound if name.is_empty() => {
             writeln!(err, "memcgrun: the file name is empty")
@@ -37,8 +37,8 @@ pub fn tell_no_script<E: Write>(err: &mut E, name: &str, error: &io::Error) {
     };
 }
 
-/// The first word of the command line that is not UTF-8, if there is one that is not longer than the
-/// buffer: its place, the program's own name not counted, and how many of the buffer's bytes it has.
+/// The first word of the command line that is not UTF-8, if there is one that is not longer than the buffer. The result
+/// is its place, without counting the program's own name, and how many of the buffer's bytes it has.
 fn first_no_text<R: Env>(rt: &R, buffer: &mut [u8]) -> Option<(usize, usize)> {
     for at in 0..usize::MAX {
         match rt.arg(at, buffer) {
@@ -55,7 +55,7 @@ fn first_no_text<R: Env>(rt: &R, buffer: &mut [u8]) -> Option<(usize, usize)> {
     None
 }
 
-/// A word of the command line that is not UTF-8.
+/// Reports a word of the command line that is not UTF-8.
 pub fn tell_no_text<R: Env, E: Write>(rt: &R, err: &mut E) {
     let mut buffer = [0; WORD_BYTES];
     let found = first_no_text(rt, &mut buffer);

@@ -5,8 +5,8 @@ use clap::{Arg, ArgAction, ArgMatches, Command, Error, value_parser};
 use std::alloc::{AllocError, Global};
 use subcommands::{Drawing, Options, Placement};
 
-/// The program's version, and the logic in which it is proved, which `rt version` says of a toolchain. What is
-/// proved hangs on the logic, and not on the toolchain's number. `docs/check_commands` compares the logic.
+/// The program's version, and the logic in which it is proved, which `rt version` prints for a toolchain. What is
+/// proved depends on the logic, and not on the toolchain's number. `docs/check_commands` compares the logic.
 const VERSION: &str = "0.2.0 (logic dac8208d650f15bf)";
 
 /// What the words ask for.
@@ -35,15 +35,15 @@ pub struct Request<'a> {
     pub subcommand: Subcommand,
     pub file: &'a str,
     pub options: Options,
-    /// Each answer is to be written as it comes, wherever the answers go.
+    /// Each answer is written as it comes, wherever the answers are written to.
     pub is_unbuffered: bool,
 }
 
 /// Why there is no request.
 #[derive(Drop)]
 pub enum Refused {
-    /// The text for the user: what was asked for, or else what is wrong, with a usage line. It says
-    /// itself which of the two it is.
+    /// The text for the user: what was asked for, or what is wrong, with a usage line. The text itself says which of
+    /// the two it is.
     Text(Error),
     Memory,
 }
@@ -119,7 +119,7 @@ fn placement_of(matches: &ArgMatches<'_>) -> Placement {
     }
 }
 
-/// As it is of subcommands that refuse no line.
+/// The option as it is for subcommands that refuse no line.
 fn explain<'a>(alloc: Global) -> Arg<'a> {
     flag(
         alloc,
@@ -242,8 +242,8 @@ fn command<'a>(alloc: Global) -> Result<Command<'a>, AllocError> {
         .subcommand(check(alloc)?)
 }
 
-/// Reads the words, the program's own name first. Words that ask for help or for the version are
-/// refused too, with that as the text.
+/// Reads the words, the program's own name first. Words that ask for help or for the version are refused too. The text
+/// is the help or the version then.
 pub fn read_words<'a>(alloc: Global, words: &'a [String]) -> Result<Asked<'a>, Refused> {
     let matches = command(alloc)?.try_get_matches_from(words)?;
     let usual = Options::default();

@@ -1,7 +1,7 @@
 //! The steps of a schedule, kept line by line.
 //!
-//! A line that begins a command and finishes it is one entry of the table, and not two steps. What the table says is the
-//! list of steps, and of each step the line: a step's place is its place in that list.
+//! A line that begins a command and finishes it is one entry of the table, and not two steps. The table gives the list
+//! of steps, and the line of each step. A step's place is its place in that list.
 #![tactic(auto)]
 
 mod schedule;

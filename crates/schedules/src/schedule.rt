@@ -41,7 +41,7 @@ impl Model for Schedule {
 }
 
 impl Entry {
-    /// Who begins which command in it.
+    /// The actor that begins a command in it, and that command.
     pub fn begins(&self) -> Option<(Actor, &Command)> {
         match self {
             Entry::Whole(actor, command) | Entry::Step(Step::Begin(actor, command)) => {
@@ -51,7 +51,7 @@ impl Entry {
         }
     }
 
-    /// How many steps it is.
+    /// The number of its steps.
     fn width(&self) -> usize
         ensures { result ≡ length (steps_of_entry self.now) }
     {
@@ -63,7 +63,7 @@ impl Entry {
 }
 
 impl Schedule {
-    /// No line.
+    /// A schedule without lines.
     pub fn new(alloc: Global) -> Schedule
         ensures steps { result.steps ≡ [] }
         ensures numbers { result.numbers ≡ [] }
@@ -73,7 +73,7 @@ impl Schedule {
         }
     }
 
-    /// One line more, of this number.
+    /// Adds a line with this number.
     pub fn add(&mut self, number: usize, entry: Entry) -> Result<(), AllocError>
         ensures steps { OnOk result (self.new.steps ≡ self.old.steps ++ steps_of_entry entry) }
         ensures numbers { OnOk result (self.new.numbers ≡ self.old.numbers ++ replicate (length (steps_of_entry entry)) number) }
@@ -94,7 +94,7 @@ impl Schedule {
         self.table.as_slice()
     }
 
-    /// How many steps there are.
+    /// The number of steps.
     pub fn len(&self) -> usize {
         match self.table.last() {
             Some(line) => line.first.saturating_add(line.entry.width()),
@@ -102,7 +102,7 @@ impl Schedule {
         }
     }
 
-    /// The line of the step that stands there.
+    /// The line of the step at this place.
     pub fn line_at(&self, step: usize) -> Option<&Line> {
         let behind = self.table.partition_point(|line| line.first <= step);
         let line = self.table.get(behind.checked_sub(1)?)?;
@@ -113,7 +113,7 @@ impl Schedule {
         }
     }
 
-    /// Who begins which command in the step that stands there.
+    /// The actor that begins a command in the step at this place, and that command.
     pub fn begun_at(&self, step: usize) -> Option<(Actor, &Command)> {
         let line = self.line_at(step)?;
         if line.first == step {
@@ -123,7 +123,7 @@ impl Schedule {
         }
     }
 
-    /// For each of the steps the number of its line.
+    /// For each step, the number of its line.
     pub fn numbers(&self, alloc: Global) -> Result<Vec<usize>, AllocError>
         ensures { IfOk result (λ numbers. numbers.items ≡ self.now.numbers) }
     {

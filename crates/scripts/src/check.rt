@@ -62,7 +62,7 @@ fn task_fits(task: Option<&Token<'_>>) -> bool
     }
 }
 
-/// Whether each argument is such a word, such a number and such a name as its place asks for.
+/// Whether each argument is such a word, such a number and such a name as its place requires.
 #[derive(Clone, Copy)]
 struct Fits {
     words: bool,
@@ -115,7 +115,7 @@ fn fits_of(kinds: &[Kind], words: &[Token<'_>]) -> Fits
     with_all(kinds, words)
 }
 
-/// Whether the daemon's marks, if the line gives them, are in order and within the frames.
+/// Whether the daemon's watermarks, if the line gives them, are in order and within the frames.
 fn marks_fit(frames: u32, word: Word, arguments: &[Token<'_>]) -> bool
     requires { length arguments.now ≡ length (form_of word).arguments }
     ensures { result ≡ marks_fit frames word arguments.now }
@@ -132,7 +132,7 @@ fn is_taken(files: &[File], name: &Token<'_>) -> bool
     files.iter().any(|file| has_name(name, file))
 }
 
-/// Whether the line gives a file a name that one before it has.
+/// Whether the line gives a file a name that an earlier one has.
 fn names_again(config: &Config, word: Word, arguments: &[Token<'_>]) -> bool
     requires { length arguments.now ≡ length (form_of word).arguments }
     ensures { result ≡ names_again config.now word arguments.now }
@@ -143,14 +143,14 @@ fn names_again(config: &Config, word: Word, arguments: &[Token<'_>]) -> bool
     is_taken(config.files.as_slice(), &arguments[0])
 }
 
-/// Whether the line asks for a file where there are as many as there can be.
+/// Whether the line asks for a file when there are already the most files that there can be.
 fn files_full(config: &Config, word: Word) -> bool
     ensures { result ≡ files_full config.now word }
 {
     word == Word::File && MOST_FILES <= config.files.as_slice().len()
 }
 
-/// Whether swap and these files are more blocks than there can be.
+/// Whether swap, these files and this number of pages are together more blocks than there can be.
 fn too_many(swap: u32, files: &[File], pages: u32) -> bool
     ensures { result ≡ nat_lt MOST_BLOCKS (swap + sum (sizes_of files.now) + pages) }
 {
@@ -163,7 +163,7 @@ fn too_many(swap: u32, files: &[File], pages: u32) -> bool
     }
 }
 
-/// Whether the header asks for too many blocks up to this line, where the line asks for some.
+/// Whether the line asks for blocks, and the header asks for too many up to this line.
 fn blocks_full(config: &Config, word: Word, arguments: &[Token<'_>]) -> bool
     requires { length arguments.now ≡ length (form_of word).arguments }
     ensures { result ≡ nat_lt MOST_BLOCKS (blocks_with config.now word arguments.now) }
@@ -176,7 +176,7 @@ fn blocks_full(config: &Config, word: Word, arguments: &[Token<'_>]) -> bool
     }
 }
 
-/// Which fault a line has by what stands before it, if it is of the header.
+/// The fault that a line has because of the lines before it, if it is of the header.
 fn fault_of_header(context: &Context, word: Word, arguments: &[Token<'_>]) -> Option<Cause>
     requires { length arguments.now ≡ length (form_of word).arguments }
     ensures { result ≡ first_of (header_faults (around context.now) word arguments.now) }
@@ -199,7 +199,7 @@ fn fault_of_header(context: &Context, word: Word, arguments: &[Token<'_>]) -> Op
     None
 }
 
-/// The first fault of a line with this word, which stands behind a task's number where there is one.
+/// The first fault of a line with this word. The word comes after a task's number, if there is one.
 pub fn fault_of_word(
     context: &Context,
     manner: Manner,

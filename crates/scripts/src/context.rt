@@ -1,4 +1,4 @@
-//! What a line has to know of the other lines.
+//! What a line needs to know of the other lines.
 
 ghost use Rattle.std.specs.Prelude.{◌≡◌, ◌&&◌};
 ghost use Rattle.std.specs.List.{list_any};
@@ -9,16 +9,16 @@ use crate::forms::Word;
 use crate::mode::Mode;
 use machine::config::Config;
 
-/// What a line has to know of the other lines.
+/// What a line needs to know of the other lines.
 #[derive(Drop)]
 pub struct Context {
     /// What the script is read for.
     pub mode: Mode,
-    /// How many frames the header asks for, also behind the line.
+    /// How many frames the header asks for, even if it does so after the line.
     pub frames: u32,
-    /// A line that is not of the header stands before.
+    /// A line that is not of the header came before.
     pub commands: bool,
-    /// The words of the header's lines that stand before.
+    /// The words of the header's lines that came before.
     pub given: Vec<Word>,
     /// What these lines say.
     pub config: Config,

@@ -7,31 +7,31 @@ use std::alloc::{AllocError, AllocFailed};
 use std::fmt;
 use thiserror::Error;
 
-/// What is wrong with a line. Of several causes it is the first in this order.
+/// What is wrong with a line. If there are several causes, it is the first of them in this order.
 #[derive(Clone, Copy, Debug, PartialEq, Eq)]
 pub enum Cause {
     /// The line is not UTF-8.
     NotText,
-    /// No line begins with the word, or none has it behind a task's number or behind `begin`. Or a
-    /// word that has to be an actor, or a call of the device, is none.
+    /// No line begins with the word, or none has it after a task's number or after `begin`. Or a word that has to be an
+    /// actor, or a call of the device, is not one.
     UnknownWord,
-    /// Fewer words than the line's first asks for.
+    /// Fewer words than the first word of the line requires.
     MissingArgument,
-    /// More words than the line's first asks for.
+    /// More words than the first word of the line allows.
     ExtraArgument,
-    /// A number has a character that is no decimal digit, or is out of its limits.
+    /// A number has a character that is not a decimal digit, or is out of its limits.
     BadNumber,
-    /// A path of a group is none, or a name of a file.
+    /// A path of a group, or a name of a file, is not valid.
     BadName,
-    /// A line of the header stands behind one that is not.
+    /// A line of the header comes after one that is not.
     HeaderAfterCommands,
-    /// A word that comes at most once came before, or a file of this name.
+    /// A word that comes at most once came before, or a file with this name did.
     HeaderTwice,
-    /// As many files as there can be came before.
+    /// The most files that there can be came before.
     TooManyFiles,
-    /// With this line swap and the files ask for more blocks than there can be.
+    /// With this line, swap and the files ask for more blocks than there can be.
     TooManyBlocks,
-    /// The script is read to be run on threads, and the line is for a schedule alone.
+    /// The script is read to be run on threads, and the line is only for a schedule.
     OnlyInSchedule,
 }
 
@@ -101,7 +101,7 @@ impl ScriptFault {
     }
 }
 
-/// What is said of a fault. Its bytes are known, as those of a derived message are not.
+/// The text of a fault. Its bytes are known, unlike those of a derived message.
 #[derive(Clone, Copy)]
 pub struct FaultText {
     pub fault: ScriptFault,

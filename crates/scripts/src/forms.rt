@@ -10,9 +10,9 @@ use machine::limit::{LAST_NUMBER, MOST_ENTRIES, MOST_FRAMES, MOST_SWAP};
 /// Who says a word.
 #[derive(Clone, Copy, PartialEq, Eq)]
 pub enum Speaker {
-    /// The shell: the word stands first.
+    /// The shell: the word comes first.
     Shell,
-    /// A task: the word stands behind the task's number.
+    /// A task: the word comes after the task's number.
     Task,
 }
 
@@ -35,12 +35,12 @@ pub enum Kind {
     Line,
 }
 
-/// How a line stands.
+/// How a line is written.
 #[derive(Clone, Copy, PartialEq, Eq)]
 pub enum Manner {
     /// By itself.
     Whole,
-    /// Behind `begin`.
+    /// After `begin`.
     Begun,
 }
 
@@ -83,7 +83,7 @@ pub enum Word {
     Go,
 }
 
-/// How a line with a word is written: one row of the table of words.
+/// How a line with a word is written. This is one row of the table of words.
 #[derive(Clone, Copy)]
 pub struct Form {
     /// The word as it is written.
@@ -91,13 +91,13 @@ pub struct Form {
     pub speaker: Speaker,
     /// What follows the word.
     pub arguments: &'static [Kind],
-    /// The line stands before all that are not of the header.
+    /// The line comes before all that are not of the header.
     pub header: bool,
     /// The word comes at most once in a script.
     pub once: bool,
-    /// The line may stand behind `begin`.
+    /// The line may follow `begin`.
     pub begun: bool,
-    /// The line is for a schedule alone.
+    /// The line is only for a schedule.
     pub scheduled: bool,
 }
 
@@ -152,7 +152,7 @@ fn header(name: &'static str, arguments: &'static [Kind]) -> Form
     }
 }
 
-/// Of the header, as often as you like.
+/// A row for a line of the header that may be repeated.
 fn header_many(name: &'static str, arguments: &'static [Kind]) -> Form
     ensures { row result ≡ header_many name.now arguments.now }
 {
@@ -195,7 +195,7 @@ fn task(name: &'static str, arguments: &'static [Kind]) -> Form
     }
 }
 
-/// Of the daemon's line.
+/// A row for the daemon's line.
 fn daemon(name: &'static str, arguments: &'static [Kind]) -> Form
     ensures { row result ≡ daemon name.now arguments.now }
 {
@@ -210,7 +210,7 @@ fn daemon(name: &'static str, arguments: &'static [Kind]) -> Form
     }
 }
 
-/// Of a line that does a part of what others do whole.
+/// A row for a line that does a part of what others do whole.
 fn part(name: &'static str, arguments: &'static [Kind]) -> Form
     ensures { row result ≡ part name.now arguments.now }
 {
@@ -225,7 +225,7 @@ fn part(name: &'static str, arguments: &'static [Kind]) -> Form
     }
 }
 
-/// Of a line that parts those before it from those behind.
+/// A row for a line that separates those before it from those after it.
 fn border(name: &'static str, arguments: &'static [Kind]) -> Form
     ensures { row result ≡ border name.now arguments.now }
 {
@@ -277,7 +277,7 @@ impl Word {
     }
 }
 
-/// The word of this name that a task has.
+/// The task's word with this name.
 fn word_of_task(text: &str) -> Option<Word>
     ensures { result ≡ word_named Speaker.Task text.now }
 {
@@ -293,7 +293,7 @@ fn word_of_task(text: &str) -> Option<Word>
     }
 }
 
-/// The word of this name that the shell has.
+/// The shell's word with this name.
 fn word_of_shell(text: &str) -> Option<Word>
     ensures { result ≡ word_named Speaker.Shell text.now }
 {
@@ -322,7 +322,7 @@ fn word_of_shell(text: &str) -> Option<Word>
     }
 }
 
-/// The word of this name that the speaker has.
+/// The speaker's word with this name.
 pub fn word_named(speaker: Speaker, text: &str) -> Option<Word>
     ensures { result ≡ word_named speaker text.now }
 {
@@ -341,7 +341,7 @@ fn is_line(arguments: &[Kind]) -> bool
     }
 }
 
-/// Whether a line with the word may stand so.
+/// Whether a line with the word may be written in this manner.
 pub fn may_stand(manner: Manner, word: Word) -> bool
     ensures { result ≡ may_stand manner word }
 {
@@ -351,7 +351,7 @@ pub fn may_stand(manner: Manner, word: Word) -> bool
     }
 }
 
-/// Whether a line with the word is for a schedule alone, where it stands so. All that is begun is.
+/// Whether a line with the word, written in this manner, is only for a schedule. All lines after `begin` are.
 pub fn is_scheduled(manner: Manner, word: Word) -> bool
     ensures { result ≡ is_scheduled manner word }
 {
@@ -361,7 +361,7 @@ pub fn is_scheduled(manner: Manner, word: Word) -> bool
     }
 }
 
-/// Whether it is a word that a line of its own follows.
+/// Whether the word is followed by a line of its own.
 pub fn takes_line(word: Option<Word>) -> bool
     ensures { result ≡ takes_line word }
 {
@@ -371,7 +371,7 @@ pub fn takes_line(word: Option<Word>) -> bool
     }
 }
 
-/// The actor of this name. A task has none, but a number.
+/// The actor with this name. A task has no name, but a number.
 pub fn actor_named(text: &str) -> Option<Actor>
     ensures { result ≡ actor_named text.now }
 {
@@ -383,7 +383,7 @@ pub fn actor_named(text: &str) -> Option<Actor>
     }
 }
 
-/// The call of the device that has this name.
+/// The call of the device with this name.
 pub fn call_named(text: &str) -> Option<DeviceCall>
     ensures { result ≡ call_named text.now }
 {
@@ -394,7 +394,7 @@ pub fn call_named(text: &str) -> Option<DeviceCall>
     }
 }
 
-/// A law: each word is found by its name, and so no two words of one speaker have one name.
+/// A law: each word is found by its name. Therefore no two words of one speaker have the same name.
 pub fn each_word_is_found()
     ensures { (w : Word) → word_named (form_of w).speaker (form_of w).name ≡ Some w }
 {}

@@ -17,10 +17,10 @@ use machine::config::{Config, FileList, Placement, Watermarks};
 use machine::limit::USUAL_TURNS;
 use std::alloc::{AllocError, Global};
 
-/// How many frames there are where the header says nothing of them.
+/// How many frames there are if the header does not say it.
 const DEFAULT_FRAMES: u32 = 64;
 
-/// What holds where the header says nothing.
+/// The configuration if the header says nothing.
 pub fn default_config(alloc: Global) -> Config
     ensures { result ≡ default_config }
 {
@@ -127,8 +127,8 @@ fn frames_asked(alloc: Global, line: &[u8]) -> Result<u32, AllocError>
     }
 }
 
-/// How many frames the header asks for, by the first of its lines that begins with `frames`; the
-/// default where there is none, or that line has a fault.
+/// How many frames the header asks for, by the first of its lines that begins with `frames`. It is the default if there
+/// is no such line, or if that line has a fault.
 pub fn header_frames(alloc: Global, text: &[u8]) -> Result<u32, AllocError>
     ensures { IfOk result (λ frames. frames ≡ header_frames (lines text.now)) }
 {

@@ -1,9 +1,9 @@
 //! The language of scripts: what the lines of a script mean, and which line is the first faulty one.
 //!
-//! A script is read whole before anything is run. Each line is judged by itself, but for three things
-//! that it needs to know of the others: how many frames the header asks for, whether a command stood
-//! before, and which words of the header did. What a line means takes no heed of faults, and is
-//! spoken of for faultless lines alone. What of it is kept goes by what the script is read for.
+//! A script is read whole before anything is run. Each line is judged by itself, except that it needs to know three
+//! things of the others. These are how many frames the header asks for, whether a command came before, and which words
+//! of the header came before. The meaning of a line is defined without regard to faults, and is used only for faultless
+//! lines. What is kept of it depends on what the script is read for.
 #![tactic(auto)]
 
 pub mod check;

@@ -18,19 +18,19 @@ use crate::meaning::{Item, item_of_word};
 use crate::words::{Token, Words, add_words};
 use std::alloc::Global;
 
-/// What the first words of a line tell of it, before anything behind them is looked at.
+/// What the first words of a line say of it, before any later word is looked at.
 #[derive(Clone, Copy)]
 enum Head<'w, 't> {
     /// The line is skipped.
     Nothing,
     /// It ends before the word that says what it does.
     Missing,
-    /// How it stands, the task's number that stands before the word, the word if there is one of this name, and
-    /// what follows it.
+    /// How the line is written, the task's number before the word, the word if there is one of this name, and what
+    /// follows it.
     Word(Manner, Option<&'w Token<'t>>, Option<Word>, &'w [Token<'t>]),
 }
 
-/// Of a line that begins with a task's number.
+/// The head of a line that begins with a task's number.
 fn head_of_task<'w, 't>(manner: Manner, task: &'w Token<'t>, words: &'w [Token<'t>]) -> Head<'w, 't>
     ensures { IsHead result (λ mode around. task_faults mode around manner task.now words.now) (λ files. as_it_stands manner (task_means files task.now words.now)) }
 {
@@ -43,7 +43,7 @@ fn head_of_task<'w, 't>(manner: Manner, task: &'w Token<'t>, words: &'w [Token<'
     }
 }
 
-/// Of what stands behind `begin`.
+/// The head of the words after `begin`.
 fn head_of_begun<'w, 't>(words: &'w [Token<'t>]) -> Head<'w, 't>
     ensures { IsHead result (λ mode around. bare_faults mode around Begun words.now) (λ files. only_begun (bare_means files words.now)) }
 {
@@ -67,7 +67,7 @@ fn head_of<'w, 't>(words: &'w [Token<'t>]) -> Head<'w, 't>
     if first.text().starts_with('#') {
         return Head::Nothing;
     }
-    // Most lines are a task's, whose number is no word to look for.
+    // Most lines are a task's. They begin with a number, which is not looked up as a word.
     if first.is_digits() {
         return head_of_task(Manner::Whole, first, more);
     }
@@ -114,7 +114,7 @@ fn read_words(alloc: Global, context: &Context, words: &[Token<'_>]) -> Result<I
     }
 }
 
-/// What a line says among those that the context is of.
+/// What a line says, in the context of the other lines.
 pub fn read_line(alloc: Global, context: &Context, line: &[u8]) -> Result<Item, LineError>
     ensures { Reads result (fault context.now.mode (around context.now) line.now) (meaning (around context.now).config.files (words_of line.now)) }
 {

@@ -25,17 +25,17 @@ use std::alloc::{AllocError, Global};
 pub enum Item {
     /// Nothing: the line is skipped.
     Nothing,
-    /// So many page frames.
+    /// This number of page frames.
     Frames(u32),
-    /// So many swap blocks.
+    /// This number of swap blocks.
     Swap(u32),
     /// A file.
     File(File),
-    /// The daemon's marks.
+    /// The daemon's watermarks.
     Marks(Watermarks),
-    /// So many entries of the trace.
+    /// This call of the device fails, counted from 1 among the calls of its kind.
     Trace(u32),
-    /// This call of the device fails, counted from 1 among those of its kind.
+    /// Protection is recursive.
     Fails(DeviceCall, u32),
     /// Protection is recursive.
     Recursive,
@@ -47,7 +47,7 @@ pub enum Item {
     Advances(Actor),
     /// Turns of the actor's command until it is answered.
     Finishes(Actor),
-    /// The setup ends here, where the script is read to be run on threads.
+    /// The setup ends here, if the script is read to be run on threads.
     EndsSetup,
 }
 
@@ -172,7 +172,8 @@ fn file_of(alloc: Global, name: &Token<'_>, pages: &Token<'_>) -> Result<File, A
     })
 }
 
-/// That the actor does this, as the line stands. What is only begun, control begins in place of the shell.
+/// The item that the actor does this, as the line is written. If the line only begins a command, `control` begins it in
+/// place of the shell.
 fn done_by(manner: Manner, actor: Actor, command: Command) -> Item
     ensures { result ≡ as_it_stands manner (Does actor command) }
 {
@@ -185,8 +186,8 @@ fn done_by(manner: Manner, actor: Actor, command: Command) -> Item
     }
 }
 
-/// What a line with this word says, as it stands, where the header has these files; behind a task's number
-/// where there is one.
+/// What a line with this word says, as it is written, if the header has these files. The word comes after a task's
+/// number, if there is one.
 pub fn item_of_word(
     alloc: Global,
     files: &[File],
@@ -258,7 +259,7 @@ pub fn item_of_word(
         },
         Word::Exit => Command::Exit,
         Word::Daemon => return Ok(done_by(manner, Actor::Daemon, Command::Daemon)),
-        // The line behind it tells what is begun.
+        // The line after it says what is begun.
         Word::Begin => return Ok(Item::Nothing),
         Word::Step => return Ok(Item::Advances(actor_value(&arguments[0]))),
         Word::Finish => return Ok(Item::Finishes(actor_value(&arguments[0]))),

@@ -8,8 +8,8 @@ ghost use Rattle.scripts.specs.Forms.{is_run};
 pub enum Mode {
     /// To be run one turn after the other, in the order of its lines.
     Schedule,
-    /// To be run on threads: what its lines before the first `go` ask for is done one after the other, and
-    /// what each actor is asked for behind it is done beside what the others are.
+    /// To be run on threads. What the lines before the first `go` ask for is done in sequence. What each actor is asked
+    /// for after it is done in parallel with what the others are asked for.
     Run,
 }
 

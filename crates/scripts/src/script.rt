@@ -40,12 +40,12 @@ pub struct Script {
     pub read_faults: Vec<u64>,
     /// Which writes, likewise.
     pub write_faults: Vec<u64>,
-    /// Of a schedule, what the other lines ask for, in their order, with their numbers, from 1.
+    /// For a schedule, what the other lines ask for, in their order, with their numbers, from 1.
     pub schedule: Schedule,
-    /// Of a run on threads, what the lines before the first `go` ask for, in their order.
+    /// For a run on threads, what the lines before the first `go` ask for, in their order.
     pub setup: Vec<(Actor, Command)>,
-    /// What those behind it ask for, in their order: a row for each actor that is asked for something, by
-    /// rising number, the shell's before all tasks'.
+    /// What the lines after it ask for, in their order. Each actor that is asked for something has a row, by rising
+    /// number; the shell's comes before those of the tasks.
     pub work: Vec<(Actor, Vec<Command>)>,
 }
 
@@ -106,7 +106,7 @@ impl Reading {
         Ok(())
     }
 
-    /// A command in the line of this number, which is done from its beginning to its end.
+    /// The command of the line with this number, which is done from its beginning to its end.
     fn add_command(
         &mut self,
         alloc: Global,
@@ -125,7 +125,7 @@ impl Reading {
         Ok(())
     }
 
-    /// What the line of this number says.
+    /// What the line with this number says.
     fn add(&mut self, alloc: Global, line: usize, item: Item) -> Result<(), AllocError>
         ensures { OnOk result (known_by self.new ≡ after (known_by self.old) line item) }
     {
@@ -171,7 +171,7 @@ impl Reading {
         Ok(())
     }
 
-    /// The line of this number.
+    /// The line with this number.
     fn add_line(&mut self, alloc: Global, number: usize, line: &[u8]) -> Result<(), LineError>
         ensures { Adds result
             (fault (known_by self.old).mode (known_by self.old).around line.now)
@@ -209,7 +209,7 @@ impl Reading {
 
 /// What a script says, or its first faulty line and the first of that line's causes.
 ///
-/// `Ok` comes exactly for a text without a faulty line, but that memory may run out.
+/// Unless memory runs out, the result is `Ok` exactly if no line of the text is faulty.
 pub fn read(alloc: Global, text: &[u8], mode: Mode) -> Result<Script, ScriptFault>
     ensures faultless { IfOk result (λ _. IsFaultless mode (lines text.now)) }
     ensures config { IfOk result (λ s. s.config ≡ config_of (items_of (lines text.now))) }
@@ -246,16 +246,15 @@ pub fn read(alloc: Global, text: &[u8], mode: Mode) -> Result<Script, ScriptFaul
     }
 }
 
-/// A law, whatever a script is read for: it is faultless or has a first fault, not both, and it has one first
-/// fault only.
+/// A law, whatever a script is read for: it is faultless or has a first fault, not both. It has only one first fault.
 pub fn one_answer()
     ensures some { (mode : Mode) (ls : List (List ℕ)) → IsFaultless mode ls ⊎ ((n : ℕ) × (c : Cause) × IsFirstFault mode ls n c) }
     ensures not_both { (mode : Mode) (ls : List (List ℕ)) (n : ℕ) (c : Cause) → IsFirstFault mode ls n c → IsFaultless mode ls → ⊥ }
     ensures one { (mode : Mode) (ls : List (List ℕ)) (m n : ℕ) (c d : Cause) → IsFirstFault mode ls m c → IsFirstFault mode ls n d → (m ≡ n) × (c ≡ d) }
 {}
 
-/// A law: the `frames` line that the daemon's marks are compared with is one of the script's lines, and
-/// whether it has a fault, and which, is as for every line, whatever the script is read for.
+/// A law: the `frames` line that the daemon's watermarks are compared with is one of the script's lines. Whether it has
+/// a fault, and which, is decided as for every line, whatever the script is read for.
 pub fn frames_line_has_its_own_fault()
     ensures { (mode : Mode) (ls : List (List ℕ)) (l : List ℕ) → frames_line ls ≡ Some l → (k : ℕ) × (k < length ls) × (slice_index_or ls k [] ≡ l) × (fault_at mode ls k ≡ own_fault l) }
 {}

@@ -1,4 +1,4 @@
-//! What each actor is asked for behind a script's first `go`.
+//! What each actor is asked for after a script's first `go`.
 
 ghost use Rattle.std.specs.Prelude.{◌≡◌, [], List, IfOk, OnOk};
 ghost use Rattle.machine.specs.declared.command.Actor.{Actor};
@@ -54,7 +54,7 @@ impl Work {
         }
     }
 
-    /// One command more of the actor's, behind its others.
+    /// Another command of the actor, after its others.
     pub fn add(&mut self, alloc: Global, actor: Actor, command: Command) -> Result<(), AllocError>
         ensures { OnOk result (self.new ≡ with_command self.old (actor, command)) }
     {
@@ -78,8 +78,8 @@ impl Work {
     }
 }
 
-/// A law: the rows of any commands are those of their actors, each once and by rising number, with all that the
-/// actor is asked for, in order.
+/// A law: the rows of any commands are those of their actors. Each actor has one row, by rising number, with all that
+/// it is asked for, in order.
 pub fn each_actor_has_its_row()
     ensures { (ps : List (Actor × Command)) → IsWork ps (work_of ps) }
 {}

@@ -169,7 +169,7 @@ fn a_write_that_fails_ends_with_status_1(rt: HostRuntime) {
     }
 }
 
-// As a pipe whose reader has ended.
+// Like a pipe whose reader has ended.
 struct Closed;
 
 impl Write for Closed {
@@ -215,7 +215,7 @@ fn the_status_holds_where_its_line_cannot_be_written(rt: HostRuntime) {
     let Full { room: _ } = err;
 }
 
-// A check has one line to write, and nobody hears of it where nobody reads that.
+// A check has one line to write. If no reader takes it, nothing is reported.
 #[test]
 fn a_check_whose_line_cannot_be_written_ends_with_status_1(rt: HostRuntime) {
     let alloc = rt.alloc();

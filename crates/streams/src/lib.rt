@@ -1,5 +1,5 @@
-//! Readers and writers of the program's public functions: such as fail, give and take little at a time, or
-//! never end; and what is written while a run goes on, and beside its answers.
+//! Readers and writers of the program's public functions: some fail, some give and take little at a time, and some
+//! never end. Also what is written during a run, in addition to its answers.
 //!
 //! What a test expects comes from the rules, never from a run.
 #![tactic(auto)]

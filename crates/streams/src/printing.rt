@@ -1,4 +1,4 @@
-//! What is written while a run goes on, and beside its answers.
+//! What is written during a run, in addition to its answers.
 
 use std::alloc::Global;
 use std::io::{Error, ErrorKind, Write};
@@ -25,7 +25,7 @@ killed 1
 error ENOENT
 ";
 
-// Keeps so many writes, and fails at the next.
+// Keeps this number of writes, and fails at the next.
 struct Limited {
     kept: Vec<u8>,
     writes: usize,
@@ -45,7 +45,7 @@ impl Write for Limited {
     }
 }
 
-// Each answer goes out in a write of its own, so those before one that can't be written are out.
+// Each answer is written in a write of its own. The answers before one that can't be written are therefore out.
 #[test]
 fn answers_are_written_as_they_come(rt: HostRuntime) {
     let alloc = rt.alloc();
@@ -112,7 +112,7 @@ fn each_answer_stands_behind_its_line(rt: HostRuntime) {
     writes(&rt, options, OVER_LIMIT, out, "");
 }
 
-// Lines that ask for nothing are counted too, and a text of several lines has the number before each.
+// Lines that ask for nothing are counted too. A text of several lines has the number before each of them.
 #[test]
 fn each_line_of_a_text_stands_behind_its_line(rt: HostRuntime) {
     let options = Options {
@@ -124,7 +124,7 @@ fn each_line_of_a_text_stands_behind_its_line(rt: HostRuntime) {
     writes(&rt, options, script, out, "");
 }
 
-// What an audit finds stands behind all answers, whatever else is asked for.
+// The result of an audit comes after all answers, whatever else is asked for.
 #[test]
 fn an_audit_has_the_last_line(rt: HostRuntime) {
     let options = Options {
@@ -160,7 +160,7 @@ agings: 0
 greatest memory.current of /a: 4096
 ";
 
-// What is counted otherwise is in options.cases of `cases`.
+// Other counts are in options.cases of `cases`.
 #[test]
 fn a_summary_counts_what_was_done(rt: HostRuntime) {
     let options = Options {
@@ -170,7 +170,7 @@ fn a_summary_counts_what_was_done(rt: HostRuntime) {
     writes(&rt, options, OVER_LIMIT, PRINTED, SUMMARY);
 }
 
-// Keeps back what it takes, until it is to pass it on. After so many writes it takes no more.
+// Keeps what it takes until it has to pass it on. After this number of writes it takes no more.
 struct KeepsBack {
     kept: Vec<u8>,
     writes: usize,
@@ -193,7 +193,7 @@ impl Write for KeepsBack {
     }
 }
 
-// All that was written is passed on, also where the run is cut short, before a fault is told.
+// All that was written is passed on before a fault is reported, also if the run is cut short.
 #[test]
 fn all_answers_are_passed_on_at_the_end(rt: HostRuntime) {
     let alloc = rt.alloc();
@@ -234,7 +234,7 @@ fn a_terminal_sees_how_many_lines_are_done(rt: HostRuntime) {
     };
     let err = "reading the script\r\u{1b}[K\r1 of 2 lines\r2 of 2 lines\r\u{1b}[K";
     writes(&rt, options, "group /a\ntask 1 /a\n", "", err);
-    // It is taken back before an answer, and not written again for less than a hundredth of the lines.
+    // It is erased before an answer, and not written again for less than a hundredth of the lines.
     let err = "reading the script\r\u{1b}[K\r1 of 2 lines\r\u{1b}[K\r2 of 2 lines\r\u{1b}[K";
     writes(
         &rt,
@@ -246,7 +246,7 @@ fn a_terminal_sees_how_many_lines_are_done(rt: HostRuntime) {
     writes(&rt, options, "", "", "reading the script\r\u{1b}[K");
 }
 
-// Of a run that is cut short it stays, as a line of its own, and so does what is said of it.
+// If a run is cut short, it stays as a line of its own, and so does what is said of it.
 #[test]
 fn a_terminal_sees_how_many_lines_were_done(rt: HostRuntime) {
     let alloc = rt.alloc();
@@ -294,7 +294,7 @@ fn a_run_that_is_cut_short_says_how_far_it_came(rt: HostRuntime) {
     assert_eq!(rt; str::from_utf8(&err), Ok(wanted));
 }
 
-// Notes the order in which it and another are written to: what it takes it passes on at once.
+// Notes the order in which it and another are written to. It passes on at once what it takes.
 struct Noted<'a> {
     all: &'a mut Vec<u8>,
     kept: Vec<u8>,
@@ -312,7 +312,7 @@ impl Write for Noted<'_> {
     }
 }
 
-// All answers are passed on before why a line was refused is told.
+// All answers are passed on before the reason why a line was refused is written.
 #[test]
 fn why_a_line_is_refused_is_told_behind_its_answer(rt: HostRuntime) {
     let alloc = rt.alloc();
@@ -329,7 +329,7 @@ fn why_a_line_is_refused_is_told_behind_its_answer(rt: HostRuntime) {
         kept: Vec::new(alloc),
         writes: 0,
     };
-    // Where it can't be told the run goes on.
+    // If the reason can't be written, the run continues.
     let script = b"group /a\ncat /a memory.max\nrmdir /b\ncat /a memory.min\n";
     let ran = run_script(alloc, options, "a.memcg", script, &mut out, &mut err);
     assert!(rt; ran.is_ok());

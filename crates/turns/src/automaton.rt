@@ -1,6 +1,5 @@
-//! The automaton of a command: what it wants of the book or of the device in a state, and what it
-//! makes of the book's reply. It knows no book, no device and no loop, so whoever runs commands runs
-//! this one.
+//! The automaton of a command: what it asks of the book or of the device in each state, and what it makes of the book's
+//! reply. It knows no book, no device and no loop, so all callers that run commands use this one.
 
 ghost use Rattle.std.specs.Prelude.{◌≡◌, ℕ, true, false, IfOk, OnErr};
 ghost use Rattle.book.specs.Replies.{IsAccessReply, IsReliefReply, IsReclaimReply, IsOkReply, IsTaskReply, IsShownReply, IsInReply, IsOutReply};
@@ -18,8 +17,8 @@ use machine::refusal::Refusal;
 use machine::text::Text;
 use std::alloc::{AllocError, Global};
 
-/// What a command wants in one turn, with the daemon's marks and so many frames free. The event of a
-/// [`Want::Call`] has only replies that [`told`] knows of.
+/// What a command asks for in one turn, with the daemon's watermarks and this number of free frames. The event of a
+/// [`Want::Call`] has only replies that [`told`] knows.
 pub fn ask(stage: Stage, marks: Watermarks, free: u32) -> Want
     ensures wants { result ≡ wants marks free stage }
     ensures awaits { AwaitsAll result }
@@ -93,7 +92,7 @@ fn access_event(access: Access) -> Event
     }
 }
 
-/// One page of so many is taken.
+/// Asks to evict one page, of those that are left.
 fn ask_page(group: GroupId, left: u64) -> Want
     ensures wants { result ≡ wants_pages group.0 left }
     ensures awaits { AwaitsAll result }
@@ -106,7 +105,7 @@ fn ask_page(group: GroupId, left: u64) -> Want
     Want::Call(Pending::Reclaim { group, left }, Event::ReclaimOne(group))
 }
 
-/// The daemon begins below its low mark.
+/// The daemon begins below its low watermark.
 fn watch(marks: Watermarks, free: u32) -> Want
     ensures wants { result ≡ wants_watch marks free }
     ensures awaits { AwaitsAll result }
@@ -119,7 +118,7 @@ fn watch(marks: Watermarks, free: u32) -> Want
     balance(marks, free)
 }
 
-/// And it goes on up to its high mark.
+/// It continues up to its high watermark.
 fn balance(marks: Watermarks, free: u32) -> Want
     ensures wants { result ≡ wants_balance marks free }
     ensures awaits { AwaitsAll result }
@@ -132,9 +131,8 @@ fn balance(marks: Watermarks, free: u32) -> Want
     Want::Call(Pending::Balance, Event::ReclaimOne(GroupId(0)))
 }
 
-/// What a command makes of the book's reply. A ticket that the reply gives out goes on with the
-/// command, and one that was handed back is spent. It fails only where memory is wanted for a control
-/// file's text and refused.
+/// What a command makes of the book's reply. A ticket that the reply hands out stays with the command, and one that was
+/// handed back is spent. It fails only if memory is refused for a control file's text.
 pub fn told(alloc: Global, pending: Pending, reply: Reply) -> Result<Transition, AllocError>
     requires awaits { Awaits pending reply }
     requires handed { IsHanded reply }
@@ -174,7 +172,7 @@ fn refused(cause: Refusal) -> Transition
     word(Word::Refused(cause))
 }
 
-/// What a reply that can't come would be.
+/// The result of a reply that cannot come.
 fn never(reply: Reply) -> Transition
     requires { IsSpendableReply reply }
 {
@@ -204,7 +202,7 @@ pub fn spend(reply: Reply)
     }
 }
 
-/// Whether a command that stands there has a ticket in hand.
+/// Whether a command in this state has a ticket in hand.
 pub fn holds(stage: &Stage) -> bool
     ensures { result ≡ holds stage.now }
 {
@@ -215,7 +213,7 @@ pub fn holds(stage: &Stage) -> bool
     }
 }
 
-/// Lets go of a command that has no ticket in hand.
+/// Ends a command that has no ticket in hand.
 pub fn let_go(stage: Stage)
     requires { holds stage ≡ false }
 {
@@ -400,7 +398,7 @@ fn shown(alloc: Global, reply: Reply) -> Result<Transition, AllocError>
     match reply {
         Reply::Shown(numbers) => match show_text(alloc, numbers) {
             Ok(text) => Ok(Transition::Ends(Answer::Text(Text::new(text)))),
-            // Want of memory is its only cause.
+            // It fails only if memory is refused.
             Err(_) => Err(AllocError),
         },
         Reply::Refused(cause) => Ok(refused(cause)),
@@ -456,7 +454,7 @@ fn fetch_failed(reply: Reply) -> Transition
     }
 }
 
-/// Where a command goes on once a transfer has ended, its own or another's.
+/// The state in which a command continues after a transfer has ended: its own or another command's.
 pub fn resumes_at(resume: Resume) -> Stage
     ensures at { result ≡ resumes_at resume }
     ensures holds { holds result ≡ false }

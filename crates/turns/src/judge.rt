@@ -1,5 +1,5 @@
-//! The first turn of a command: its paths are found, all of them; then a control file's name, mode and
-//! amount or flag are judged.
+//! The first turn of a command. All its paths are looked up; then the name, the mode and the amount or flag of a
+//! control file are judged.
 
 ghost use Rattle.std.specs.Prelude.{◌≡◌, ℕ, ◌<◌, ◌≤◌, false, IfOk, OnOk, OnErr, map, option_map};
 ghost use Rattle.book.specs.Passes.{find_of, keeping};
@@ -22,9 +22,9 @@ use machine::refusal::Refusal;
 use machine::text::Text;
 use std::alloc::{AllocError, Global};
 
-/// What becomes of a command in its first turn. All its paths are looked up, in order, before anything
-/// of it is judged, and the pass keeps them. A command that goes on has no ticket in hand yet. It fails only
-/// where memory is wanted for what is kept of the command, and refused.
+/// The result of a command's first turn. All its paths are looked up, in order, before anything of it is judged, and
+/// the pass keeps them. A command that continues has no ticket in hand yet. It fails only if memory is refused for what
+/// is kept of the command.
 pub fn judge(
     alloc: Global,
     book: &Book,
@@ -126,7 +126,7 @@ fn judge_shell(
             target,
             path,
         } => {
-            // Neither is looked up where there is no memory for both.
+            // Neither is looked up unless there is memory for both.
             let above = target.copy(alloc)?;
             let below = path.copy(alloc)?;
             let target = book.find(pass, above);
@@ -259,7 +259,7 @@ fn write_named(group: GroupId, file: ControlFile, text: &str) -> Result<Stage, R
         },
         ControlFile::Reclaim => match parse_amount(text) {
             Some(Amount::Pages(left)) => Ok(Stage::Reclaim { group, left }),
-            // There is no telling how many pages `max` would be.
+            // `max` is not a number of pages.
             Some(Amount::Max) | None => Err(Refusal::Invalid),
         },
     }

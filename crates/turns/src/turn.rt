@@ -23,8 +23,8 @@ pub struct Access {
 }
 
 impl Access {
-    /// Whether the page is marked that it hits (kernel: the accessed bit of a page table; a page of a file that is
-    /// read in for a `read` or a `write` has none).
+    /// Whether the page that it hits is marked. (Kernel: the accessed bit of a page table. A page of a file that is
+    /// read in for a `read` or a `write` has none.)
     pub fn marks(self, placement: Placement) -> bool
         ensures { result ≡ marks_by placement self }
     {
@@ -44,8 +44,7 @@ impl Access {
     }
 }
 
-/// A state that holds no ticket: what a command goes on with once a transfer has ended, its own or
-/// another's.
+/// A state that holds no ticket. A command continues in it after a transfer has ended: its own or another command's.
 #[derive(Clone, Copy)]
 pub enum Resume {
     /// The access is tried again.
@@ -54,14 +53,14 @@ pub enum Resume {
     MakeRoom(Access, Cause),
     /// Room is made under the group, whose max was set.
     Lower(GroupId),
-    /// So many pages more are taken from the group or from below it.
+    /// `left` more pages are evicted from the group or from below it.
     Reclaim { group: GroupId, left: u64 },
-    /// The daemon takes pages.
+    /// The daemon evicts pages.
     Balance,
 }
 
-/// Where a command stands, its paths found and its texts read: what it asks of the book or of the
-/// device next. A ticket in it has to be spent.
+/// The state of a command after its paths are found and its texts read: what it asks of the book or of the device next.
+/// A ticket in it has to be spent.
 #[must_use]
 pub enum Stage {
     /// The access is tried.
@@ -81,19 +80,19 @@ pub enum Stage {
         guard: Guard,
         amount: Amount,
     },
-    /// The group's flag is set: whether the killer takes it as one.
+    /// The group's flag is set: whether an OOM kill kills all its tasks.
     SetOomGroup {
         group: GroupId,
         flag: OomGroup,
     },
-    /// So many pages more are taken from the group or from below it.
+    /// This number of further pages is evicted from the group or from below it.
     Reclaim {
         group: GroupId,
         left: u64,
     },
-    /// The daemon looks whether it is wanted (kernel: a kswapd that sleeps).
+    /// The daemon checks whether it has to run (kernel: a kswapd that sleeps).
     Watch,
-    /// The daemon takes pages (kernel: balance_pgdat).
+    /// The daemon evicts pages (kernel: balance_pgdat).
     Balance,
     Spawn {
         task: TaskId,
@@ -117,15 +116,15 @@ pub enum Stage {
     Show(Query),
     /// The ticket's block is read, for the access.
     Read(Access, InTicket),
-    /// It was read, and the book is told.
+    /// It was read, and the next event reports this to the book.
     Arrive(Access, InTicket),
-    /// It could not be read, and the book is told.
+    /// It could not be read, and the next event reports this to the book.
     FetchFail(InTicket),
     /// The ticket's block is written.
     Write(Resume, OutTicket),
-    /// It was written, and the book is told.
+    /// It was written, and the next event reports this to the book.
     Leave(Resume, OutTicket),
-    /// It could not be written, and the book is told.
+    /// It could not be written, and the next event reports this to the book.
     LeaveFail(OutTicket),
 }
 
@@ -136,9 +135,9 @@ pub enum Pending {
     MakeRoom(Access, Cause),
     SetMax(GroupId),
     Lower(GroupId),
-    /// So many pages are wanted, the one that was asked for among them.
+    /// `left` pages are to be evicted, including the one that was asked for.
     Reclaim { group: GroupId, left: u64 },
-    /// A page is taken for the daemon.
+    /// A page is evicted for the daemon.
     Balance,
     /// A task or a group is made, a task is moved, a group is removed, or a min is set.
     Make,
@@ -153,7 +152,7 @@ pub enum Pending {
 }
 
 impl Pending {
-    /// Whether a page is marked that the event hits.
+    /// Whether the page that the event hits is marked.
     pub fn marks_hit(self, placement: Placement) -> bool
         ensures { result ≡ marks_hit placement self }
     {
@@ -168,10 +167,10 @@ impl Pending {
     }
 }
 
-/// What an actor wants in one turn.
+/// What an actor asks for in one turn.
 #[must_use]
 pub enum Want {
-    /// This event of the book; and what it remembers of it.
+    /// This event of the book, and what the command remembers of it.
     Call(Pending, Event),
     /// The ticket's block, read from the device.
     Read(Access, InTicket),
@@ -181,17 +180,17 @@ pub enum Want {
     End(Answer),
 }
 
-/// Who was killed.
+/// The tasks that were killed.
 #[derive(Clone, Copy)]
 pub enum Kill {
     /// A task, alone.
     One(TaskId),
-    /// A victim, with all tasks of a group and of those below it: so many, the victim counted.
+    /// A victim, with all tasks of a group and of those below it. `tasks` is their number, with the victim.
     Group { victim: TaskId, tasks: u32 },
 }
 
 impl Kill {
-    /// What is told of it.
+    /// The answer that reports it.
     pub fn answer(self) -> Answer
         ensures { result ≡ kill_answer self }
     {
@@ -202,14 +201,14 @@ impl Kill {
     }
 }
 
-/// What a turn makes of a command.
+/// The result of a turn for a command.
 #[must_use]
 pub enum Transition {
     Goes(Stage),
-    /// A task was killed, or all of a group, and the command goes on.
+    /// A task was killed, or all tasks of a group, and the command continues.
     Kills(Kill, Resume),
-    /// A page in transfer is in the way. A schedule answers `busy`; a worker waits until a transfer has
-    /// ended, and goes on here.
+    /// A page in transfer is in the way. A schedule answers `busy`. A worker waits until a transfer has ended, and
+    /// continues here.
     Waits(Resume),
     Ends(Answer),
 }
