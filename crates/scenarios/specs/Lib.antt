@@ -1,0 +1,5 @@
+pub mod Draws
+pub mod Pieces
+pub mod Reading
+pub mod Sizes
+pub mod Words
