@@ -1,2 +1,4 @@
+mod NearestLemmas
+mod PartLemmas
 mod PieceLemmas
 mod WordLemmas

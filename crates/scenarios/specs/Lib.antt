@@ -1,4 +1,7 @@
 pub mod Draws
+pub mod Holes
+pub mod Nearest
+pub mod Parts
 pub mod Pieces
 pub mod Reading
 pub mod Sizes

@@ -5,6 +5,9 @@
 #![tactic(auto)]
 
 pub mod draws;
+pub mod holes;
+pub mod nearest;
+pub mod parts;
 pub mod pieces;
 pub mod sizes;
 pub mod words;
