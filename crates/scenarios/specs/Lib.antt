@@ -1,8 +1,11 @@
+pub mod Building
 pub mod Draws
 pub mod Holes
+pub mod Lines
 pub mod Nearest
 pub mod Parts
 pub mod Pieces
 pub mod Reading
+pub mod Scenario
 pub mod Sizes
 pub mod Words

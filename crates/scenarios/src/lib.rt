@@ -5,9 +5,12 @@
 #![tactic(auto)]
 
 pub mod draws;
+pub mod fault;
 pub mod holes;
+pub mod lines;
 pub mod nearest;
 pub mod parts;
 pub mod pieces;
+pub mod scenario;
 pub mod sizes;
 pub mod words;
