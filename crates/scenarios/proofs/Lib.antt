@@ -1,3 +1,4 @@
+mod BlockLemmas
 mod NearestLemmas
 mod PartLemmas
 mod PieceLemmas
