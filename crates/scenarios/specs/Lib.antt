@@ -1,5 +1,6 @@
 pub mod Building
 pub mod Draws
+pub mod FaultTexts
 pub mod Holes
 pub mod Lines
 pub mod Nearest

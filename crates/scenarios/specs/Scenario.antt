@@ -1,7 +1,8 @@
 -- What the text of a scenario says, or its first fault.
-use Rattle.std.specs.Prelude.{◌≡◌, ℕ, ◌+◌, ◌-◌, Bool, true, false, ◌||◌, not, List, [], ◌∷◌, ◌++◌, length, take, Option, Some, None, Result, Ok, Err, if◌then◌else◌}
+use Rattle.std.specs.Prelude.{◌≡◌, ℕ, ◌+◌, ◌-◌, Bool, true, false, ◌||◌, not, List, [], ◌∷◌, ◌++◌, length, take, count_by, nat_lt, nat_le, Option, Some, None, Result, Ok, Err, if◌then◌else◌}
 use Rattle.std.specs.Str.{chars, is_utf8}
 use Rattle.std.specs.Str.Lines.{lines}
+use Rattle.std.specs.Str.Lossy.{utf8_valid_len}
 use Rattle.scenarios.specs.declared.fault.Cause.{Cause}
 use Rattle.scenarios.specs.declared.fault.Cause.TheVariants as cause
 use Rattle.scenarios.specs.declared.fault.Fault.{Fault}
@@ -73,9 +74,17 @@ abbrev pub word_faulty : ℕ → Result (List TextWord) WordFault → Result (Li
 word_faulty number (Ok ws) = Ok ws
 word_faulty number (Err f) = Err (fault_in number f.column (cause.Word f.cause))
 
+-- a byte with which a character begins
+abbrev pub begins_character : ℕ → Bool
+begins_character b = nat_lt b 128 || nat_le 192 b
+
+-- the column behind the characters before the first bytes that are no UTF-8
+abbrev pub column_of_text : List ℕ → ℕ
+column_of_text bytes = count_by begins_character (take (utf8_valid_len bytes) bytes) + 1
+
 -- the words of a line of these bytes, or what is wrong with it as a text
 abbrev pub line_words : ℕ → List ℕ → Result (List TextWord) Fault
-line_words number bytes = if is_utf8 bytes then word_faulty number (words_of (chars bytes)) else Err (fault_in number 1 cause.NotText)
+line_words number bytes = if is_utf8 bytes then word_faulty number (words_of (chars bytes)) else Err (fault_in number (column_of_text bytes) cause.NotText)
 
 abbrev pub onto_lines : List WordLine → Result (List WordLine) Fault → Result (List WordLine) Fault
 onto_lines ls (Ok more) = Ok (ls ++ more)

@@ -1,5 +1,5 @@
 -- Sizes, as they are written, and the pages that they take.
-use Rattle.std.specs.Prelude.{ℕ, ◌+◌, ◌-◌, ◌*◌, ◌/◌, ◌%◌, ◌^◌, Bool, true, false, ◌&&◌, ◌||◌, not, ◌==◌, List, [], ◌∷◌, length, take, codes, Option, Some, None, Result, Ok, Err, nat_lt, nat_le, slice_index, unwrap_or, if◌then◌else◌}
+use Rattle.std.specs.Prelude.{ℕ, ◌+◌, ◌-◌, ◌*◌, ◌/◌, ◌%◌, ◌^◌, Bool, true, false, ◌&&◌, ◌||◌, not, ◌==◌, List, [], ◌∷◌, length, take, codes, Option, Some, None, Result, Ok, Err, nat_lt, nat_le, slice_index, is_ok, unwrap_or, if◌then◌else◌}
 use Rattle.std.specs.Int.{div_ceil}
 use Rattle.std.specs.List.{position_or_len, before_first, after_first}
 use Rattle.std.specs.Str.{bytes_eq}
@@ -76,9 +76,38 @@ pages_written number = if is_numeral number then counted (number_below (2 ^ 32) 
     counted None = Err fault.TooLarge
     counted (Some pages) = Ok (size.Pages pages)
 
+-- the size of a word, by its form
+abbrev pub size_by_form : List ℕ → Result Size SizeFault
+size_by_form word = if last_byte word == 112 then pages_written (without_last word) else bytes_written (split_unit word).0 (split_unit word).1
+
+-- ---- words that are nearly a size
+
+-- without the `i` of a unit like `Mi`, and without the `B` of one like `MiB` or `MB`
+abbrev pub without_i : List ℕ → List ℕ
+without_i word = if last_byte word == 105 then without_last word else word
+
+abbrev pub short_unit : List ℕ → List ℕ
+short_unit word = if last_byte word == 66 then without_i (without_last word) else without_i word
+
+-- what is wrong with a word that is none by its form
+abbrev pub hint_of : List ℕ → SizeFault
+hint_of word =
+    if bytes_eq word (codes "-1") || bytes_eq word (codes "infinity") || bytes_eq word (codes "unlimited") then fault.Unlimited
+    else if last_byte word == 37 then fault.Percent
+    else if is_ok (size_by_form (short_unit word)) then fault.LongUnit
+    else fault.NotSize
+
+abbrev pub hinted : List ℕ → Result Size SizeFault → Result Size SizeFault
+hinted word (Ok s) = Ok s
+hinted word (Err fault.NotSize) = Err (hint_of word)
+hinted word (Err fault.TooLarge) = Err fault.TooLarge
+hinted word (Err fault.LongUnit) = Err fault.LongUnit
+hinted word (Err fault.Unlimited) = Err fault.Unlimited
+hinted word (Err fault.Percent) = Err fault.Percent
+
 -- the size that a word writes
 abbrev pub size_of : List ℕ → Result Size SizeFault
-size_of word = if last_byte word == 112 then pages_written (without_last word) else bytes_written (split_unit word).0 (split_unit word).1
+size_of word = hinted word (size_by_form word)
 
 -- the limit that a word writes
 abbrev pub limit_of : List ℕ → Result Limit SizeFault

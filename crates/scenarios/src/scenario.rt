@@ -1,16 +1,18 @@
 //! Scenarios: their lines, and the blocks that these form.
 
-ghost use Rattle.std.specs.Prelude.{◌≡◌, ℕ, ◌+◌, ◌-◌, ◌<◌, ◌^◌, ◌∷◌, ◌++◌, [], length, take, Some, None, OnOk, MatchOption};
+ghost use Rattle.std.specs.Prelude.{◌≡◌, ℕ, ◌+◌, ◌-◌, ◌<◌, ◌^◌, ◌∷◌, ◌++◌, [], length, take, count_by, Some, None, true, false, OnOk, MatchResult};
+ghost use Rattle.std.specs.Str.{is_utf8};
 ghost use Rattle.std.specs.Option.{option_map};
 ghost use Rattle.scenarios.specs.Lines.{kind_of, text_line};
-ghost use Rattle.scenarios.specs.Scenario.{Reads, line_words, at_start, first_column, end_fault, place_fault, with_block, behind, scenario_of};
+ghost use Rattle.scenarios.specs.Scenario.{Reads, line_words, at_start, begins_character, column_of_text, first_column, end_fault, place_fault, with_block, behind, scenario_of};
 ghost use Rattle.scenarios.specs.Building.{before_of, places_of, AreOpen, first_closed, lines_behind, rest_of, Goes};
 
 use crate::fault::{Cause, Fault, ReadError};
 use crate::lines::{Line, LineKind, kind_of};
 use crate::words::{Word, WordError, words_of};
-use scripts::lines::{as_text, first_line};
+use scripts::lines::first_line;
 use std::alloc::{AllocError, Global};
+use std::str;
 
 /// What a scenario says: the lines of its tree in their order, without those that end blocks. A line that opens a block knows
 /// how many of the next lines are in it.
@@ -30,16 +32,37 @@ pub struct Opened {
     pub column: usize,
 }
 
+/// How many characters begin in these bytes.
+fn characters(bytes: &[u8]) -> usize
+    ensures { result ≡ count_by begins_character bytes.now }
+{
+    bytes
+        .iter()
+        .filter(|byte| **byte < 128 || **byte >= 192)
+        .count()
+}
+
+/// The line as a text, or the column of what is no UTF-8.
+fn line_text(bytes: &[u8]) -> Result<&str, usize>
+    ensures { MatchResult result (λ text. (is_utf8 bytes.now ≡ true) × (text.now ≡ bytes.now)) (λ column. (is_utf8 bytes.now ≡ false) × (column ≡ column_of_text bytes.now)) }
+{
+    match str::from_utf8(bytes) {
+        Ok(text) => Ok(text),
+        Err(broken) => Err(characters(&bytes[..broken.valid_up_to()]) + 1),
+    }
+}
+
 /// The words of the line of this number, or what is wrong with it as a text.
 fn line_words(alloc: Global, number: usize, bytes: &[u8]) -> Result<Vec<Word>, ReadError>
     ensures { Reads (λ ws. ws.items) result (line_words number bytes.now) }
 {
-    let Some(text) = as_text(bytes) else {
-        return Err(ReadError::Faulty(Fault {
+    let text = match line_text(bytes) {
+        Ok(text) => text,
+        Err(column) => return Err(ReadError::Faulty(Fault {
             line: number,
-            column: 1,
+            column,
             cause: Cause::NotText,
-        }));
+        })),
     };
     match words_of(alloc, text) {
         Ok(words) => Ok(words),

@@ -1,7 +1,7 @@
 //! Sizes, as they are written, and the pages that they take.
 
 ghost use Rattle.std.specs.Prelude.{◌≡◌, ◌<◌, ◌≤◌, ◌-◌, ◌*◌, ◌^◌, ◌==◌, IfSome};
-ghost use Rattle.scenarios.specs.Sizes.{unit_bytes, last_byte, split_unit, whole_of, places_of, is_decimal, millionths_of, bytes_of, bytes_written, pages_written, size_of, limit_of, pages_down, pages_up, is_whole};
+ghost use Rattle.scenarios.specs.Sizes.{unit_bytes, last_byte, split_unit, whole_of, places_of, is_decimal, millionths_of, bytes_of, bytes_written, pages_written, size_by_form, without_i, short_unit, hint_of, size_of, limit_of, pages_down, pages_up, is_whole};
 
 use text_forms::number::{is_digits, long_number_of, number_of};
 
@@ -34,6 +34,12 @@ pub enum SizeFault {
     NotSize,
     /// It is above what a size can be.
     TooLarge,
+    /// It has a unit of two or three letters, as `Mi`, `MB` and `MiB`, where one is enough.
+    LongUnit,
+    /// It says that there is no limit, in words of other programs.
+    Unlimited,
+    /// It is a share.
+    Percent,
 }
 
 fn unit_bytes(letter: u8) -> Option<u64>
@@ -153,15 +159,69 @@ fn counts_pages(word: &str) -> bool
     word.as_bytes().last() == Some(&b'p')
 }
 
-/// The size that a word writes: digits, a point and up to six more where there are parts, and a unit; or digits and `p`.
-pub fn read_size(word: &str) -> Result<Size, SizeFault>
-    ensures { result ≡ size_of word.now }
+fn size_by_form(word: &str) -> Result<Size, SizeFault>
+    ensures { result ≡ size_by_form word.now }
 {
     if counts_pages(word) {
         return pages_written(&word[..word.len() - 1]);
     }
     let (number, unit) = split_unit(word);
     bytes_written(number, unit)
+}
+
+fn ends_in(word: &str, letter: u8) -> bool
+    requires { 0 < letter }
+    ensures { result ≡ (last_byte word.now == letter) }
+{
+    word.as_bytes().last() == Some(&letter)
+}
+
+fn without_i(word: &str) -> &str
+    ensures { result.now ≡ without_i word.now }
+{
+    if ends_in(word, b'i') {
+        &word[..word.len() - 1]
+    } else {
+        word
+    }
+}
+
+/// A word with the first letter alone of a unit like `Mi`, `MB` or `MiB`.
+pub fn short_unit(word: &str) -> &str
+    ensures { result.now ≡ short_unit word.now }
+{
+    if ends_in(word, b'B') {
+        without_i(&word[..word.len() - 1])
+    } else {
+        without_i(word)
+    }
+}
+
+/// What is wrong with a word that is no size by its form.
+fn hint_of(word: &str) -> SizeFault
+    ensures { result ≡ hint_of word.now }
+{
+    if word == "-1" || word == "infinity" || word == "unlimited" {
+        return SizeFault::Unlimited;
+    }
+    if ends_in(word, b'%') {
+        return SizeFault::Percent;
+    }
+    if size_by_form(short_unit(word)).is_ok() {
+        SizeFault::LongUnit
+    } else {
+        SizeFault::NotSize
+    }
+}
+
+/// The size that a word writes: digits, a point and up to six more where there are parts, and a unit; or digits and `p`.
+pub fn read_size(word: &str) -> Result<Size, SizeFault>
+    ensures { result ≡ size_of word.now }
+{
+    match size_by_form(word) {
+        Err(SizeFault::NotSize) => Err(hint_of(word)),
+        size => size,
+    }
 }
 
 /// The limit that a word writes: `max`, or a size.
