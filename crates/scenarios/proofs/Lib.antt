@@ -2,4 +2,5 @@ mod BlockLemmas
 mod NearestLemmas
 mod PartLemmas
 mod PieceLemmas
+mod SizeLemmas
 mod WordLemmas

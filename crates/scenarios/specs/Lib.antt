@@ -8,5 +8,6 @@ pub mod Parts
 pub mod Pieces
 pub mod Reading
 pub mod Scenario
+pub mod SizeFaultTexts
 pub mod Sizes
 pub mod Words

@@ -54,6 +54,10 @@ abbrev pub started : Option PartRead → ℕ → PartRead
 started None before = record { column = before + 1; text = []; quoted = false; braces = false }
 started (Some p) before = p
 
+-- the part with a character more, which is not counted yet
+abbrev pub part_longer : LineRead → ℕ → LineRead
+part_longer k c = record { before = k.before; inside = turned k.inside c; part = Some (longer (started k.part k.before) k.inside c); words = k.words }
+
 abbrev pub with_part : LineRead → ℕ → LineRead
 with_part k c = record { before = k.before + 1; inside = turned k.inside c; part = Some (longer (started k.part k.before) k.inside c); words = k.words }
 

@@ -1,5 +1,5 @@
 -- Sizes, as they are written, and the pages that they take.
-use Rattle.std.specs.Prelude.{ℕ, ◌+◌, ◌-◌, ◌*◌, ◌/◌, ◌%◌, ◌^◌, Bool, true, false, ◌&&◌, ◌||◌, not, ◌==◌, List, [], ◌∷◌, length, take, codes, Option, Some, None, Result, Ok, Err, nat_lt, nat_le, slice_index, is_ok, unwrap_or, if◌then◌else◌}
+use Rattle.std.specs.Prelude.{ℕ, ◌+◌, ◌-◌, ◌*◌, ◌/◌, ◌%◌, ◌^◌, ◌<◌, ◌≤◌, Bool, true, false, ◌&&◌, ◌||◌, not, ◌==◌, List, [], ◌∷◌, length, take, codes, Option, Some, None, Result, Ok, Err, nat_lt, nat_le, slice_index, is_ok, unwrap_or, if◌then◌else◌}
 use Rattle.std.specs.Int.{div_ceil}
 use Rattle.std.specs.List.{position_or_len, before_first, after_first}
 use Rattle.std.specs.Str.{bytes_eq}
@@ -131,3 +131,25 @@ pages_up (size.Bytes whole millionths) page = if millionths == 0 then div_ceil w
 abbrev pub is_whole : Size → ℕ → Bool
 is_whole (size.Pages pages) page = true
 is_whole (size.Bytes whole millionths) page = millionths == 0 && (whole % page) == 0
+
+-- ---- what pages have
+
+-- the size in millionths of a byte, where a page has so many bytes
+abbrev pub in_millionths : Size → ℕ → ℕ
+in_millionths (size.Pages pages) page = pages * page * 10 ^ 6
+in_millionths (size.Bytes whole millionths) page = whole * 10 ^ 6 + millionths
+
+-- less than a byte is in millionths
+abbrev pub IsProper : Size → Type 0
+IsProper (size.Pages pages) = Unit {0}
+IsProper (size.Bytes whole millionths) = millionths < 10 ^ 6
+
+-- so many pages are within the size, and no more of them are
+pub record IsFloor (s : Size) (page pages : ℕ) : Type 0 where
+  pub within : pages * page * 10 ^ 6 ≤ in_millionths s page
+  pub most : (more : ℕ) → more * page * 10 ^ 6 ≤ in_millionths s page → more ≤ pages
+
+-- so many pages have the size, and no fewer have it
+pub record IsCeiling (s : Size) (page pages : ℕ) : Type 0 where
+  pub enough : in_millionths s page ≤ pages * page * 10 ^ 6
+  pub least : (fewer : ℕ) → in_millionths s page ≤ fewer * page * 10 ^ 6 → pages ≤ fewer

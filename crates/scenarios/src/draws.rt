@@ -30,6 +30,7 @@ pub fn draw(seed: u32, index: u32, from: u32, to: u32) -> u32
 #[cfg(test)]
 mod tests {
     use super::*;
+    use std::process::Abort;
 
     fn first_four(rt: &impl Abort, seed: u32, pages: [u32; 4]) {
         assert_eq!(rt; draw(seed, 1, 0, 1000), pages[0]);

@@ -12,5 +12,8 @@ pub mod nearest;
 pub mod parts;
 pub mod pieces;
 pub mod scenario;
+pub mod size_faults;
 pub mod sizes;
+#[cfg(test)]
+mod tests;
 pub mod words;

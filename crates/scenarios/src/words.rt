@@ -8,7 +8,7 @@ ghost use Rattle.scripts.specs.Words.{is_blank};
 ghost use Rattle.scenarios.specs.declared.words.WordError.TheVariants.{Memory};
 ghost use Rattle.scenarios.specs.Pieces.{TextPiece, is_brace};
 ghost use Rattle.scenarios.specs.Words.{TextWord, is_quote, turned, closed_word, words_of};
-ghost use Rattle.scenarios.specs.Reading.{Gives, part_read, line_read, longer, started, with_part, words_with, with_word, with_character, part_ended, words_read, rest_read, at_start};
+ghost use Rattle.scenarios.specs.Reading.{Gives, part_read, line_read, longer, started, part_longer, with_part, words_with, with_word, with_character, part_ended, words_read, rest_read, at_start};
 
 use crate::pieces::{Kind, Piece, pieces_of};
 use std::alloc::{AllocError, AllocFailed, Global};
@@ -218,7 +218,7 @@ impl Reader {
     /// A character of a word, or a quote.
     fn add_to_part(&mut self, alloc: Global, character: char) -> Result<(), AllocError>
         requires { (line_read self.old).before + 1 < 2 ^ 64 }
-        ensures { OnOk result (line_read self.new ≡ with_part (line_read self.old) character) }
+        ensures { OnOk result (line_read self.new ≡ part_longer (line_read self.old) character) }
     {
         let mut part = match self.part.take() {
             Some(part) => part,
@@ -234,7 +234,6 @@ impl Reader {
         if character == '"' {
             self.inside = !self.inside;
         }
-        self.before += 1;
         Ok(())
     }
 
@@ -245,10 +244,10 @@ impl Reader {
     {
         if !self.inside && is_blank(character) {
             self.end_part(alloc)?;
-            self.before += 1;
-            return Ok(());
+        } else {
+            self.add_to_part(alloc, character)?;
         }
-        self.add_to_part(alloc, character)?;
+        self.before += 1;
         Ok(())
     }
 
