@@ -1,0 +1,6 @@
+mod BlockLemmas
+mod NearestLemmas
+mod PartLemmas
+mod PieceLemmas
+mod SizeLemmas
+mod WordLemmas

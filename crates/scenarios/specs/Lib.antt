@@ -1,0 +1,13 @@
+pub mod Building
+pub mod Draws
+pub mod FaultTexts
+pub mod Holes
+pub mod Lines
+pub mod Nearest
+pub mod Parts
+pub mod Pieces
+pub mod Reading
+pub mod Scenario
+pub mod SizeFaultTexts
+pub mod Sizes
+pub mod Words

@@ -1,0 +1,151 @@
+//! Texts of scenarios, as they are read.
+
+use crate::fault::ReadError;
+use crate::holes::{Named, fill};
+use crate::lines::{Line, LineKind, literal};
+use crate::parts::{Which, read_names, read_part};
+use crate::scenario::read;
+use crate::size_faults::SizeFaultText;
+use crate::sizes::{Size, read_size};
+use std::alloc::Global;
+use std::test::Fail;
+
+/// What is said of a text's fault, where there is one.
+fn said(alloc: Global, text: &[u8]) -> Result<String, Fail> {
+    match read(alloc, text) {
+        Ok(_) => Ok(String::from_str(alloc, "no fault")?),
+        Err(ReadError::Memory) => Ok(String::from_str(alloc, "out of memory")?),
+        Err(ReadError::Faulty(fault)) => Ok(format!(in alloc; "{}", fault.text("a"))?),
+    }
+}
+
+/// The first words of lines, the lines' numbers, and how many are in their blocks.
+fn shape(alloc: Global, lines: &[Line]) -> Result<String, Fail> {
+    let mut shape = String::new(alloc);
+    for line in lines {
+        let name = line.words().first().and_then(|word| literal(word));
+        let told = format!(in alloc;
+            "{}:{}({}) ",
+            line.number(),
+            name.unwrap_or("?"),
+            line.inside()
+        )?;
+        shape.push_str(told.as_str())?;
+    }
+    Ok(shape)
+}
+
+#[test]
+fn blocks_are_counted(rt: HostRuntime) -> Result<(), Fail> {
+    let alloc = rt.alloc();
+    let text =
+        b"# a comment\nmemory 4M\n\nrepeat 3\n  a read\r\n  together # b\n    b read\n  end\nend\nshow\n";
+    let Ok(scenario) = read(alloc, text) else {
+        return Err("a fault")?;
+    };
+    let shape = shape(alloc, scenario.lines.as_slice())?;
+    assert_eq!(rt;
+        shape.as_str(),
+        "2:memory(0) 4:repeat(3) 5:a(0) 6:together(1) 7:b(0) 10:show(0) "
+    );
+    Ok(())
+}
+
+#[test]
+fn faults_are_said(rt: HostRuntime) -> Result<(), Fail> {
+    let alloc = rt.alloc();
+    assert_eq!(rt;
+        said(alloc, b"show\nmemory 4M\n")?.as_str(),
+        "a:2:1: a line of the header below other lines; move it to the top"
+    );
+    assert_eq!(rt;
+        said(alloc, "group \"/ä b\" max {x\n".as_bytes())?.as_str(),
+        "a:1:18: braces without a name between them; write {NAME}"
+    );
+    assert_eq!(rt;
+        said(alloc, b"  end\n")?.as_str(),
+        "a:1:3: no block is open here; remove this \"end\""
+    );
+    assert_eq!(rt;
+        said(alloc, b"\n repeat 2\nx read\n")?.as_str(),
+        "a:2:2: the block has no end; write \"end\" below its last line"
+    );
+    assert_eq!(rt;
+        said(alloc, b"ab\xff")?.as_str(),
+        "a:1:3: the line is not UTF-8; save the file as UTF-8"
+    );
+    Ok(())
+}
+
+#[test]
+fn a_quote_keeps_what_is_in_it(rt: HostRuntime) -> Result<(), Fail> {
+    let alloc = rt.alloc();
+    let Ok(scenario) = read(alloc, b"group /pods/\"a #{b\" x{round}y#z\n") else {
+        return Err("a fault")?;
+    };
+    let Some(line) = scenario.lines.first() else {
+        return Err("no line")?;
+    };
+    assert_eq!(rt; line.kind(), LineKind::Other);
+    let values = vec![in alloc;
+        Named::new(
+            String::from_str(alloc, "round")?,
+            String::from_str(alloc, "12")?
+        ),
+    ]?;
+    let mut told = String::new(alloc);
+    for word in line.words() {
+        let Ok(filled) = fill(alloc, word.pieces(), values.as_slice()) else {
+            return Err("no value")?;
+        };
+        let one = format!(in alloc; "{}:{}|", word.column(), filled.as_str())?;
+        told.push_str(one.as_str())?;
+    }
+    assert_eq!(rt; told.as_str(), "1:group|7:/pods/a #{b|21:x12y|");
+    Ok(())
+}
+
+/// How many whole pages of 4096 bytes a size has, and how many have all of it, or what is said of its word.
+fn pages(alloc: Global, word: &str) -> Result<String, Fail> {
+    match read_size(word) {
+        Ok(size) => Ok(format!(in alloc; "{} {}", size.pages_down(4096), size.pages_up(4096))?),
+        Err(fault) => Ok(format!(in alloc; "{}", SizeFaultText { word, fault })?),
+    }
+}
+
+#[test]
+fn sizes_are_exact(rt: HostRuntime) -> Result<(), Fail> {
+    let alloc = rt.alloc();
+    assert_eq!(rt; pages(alloc, "1.5M")?.as_str(), "384 384");
+    assert_eq!(rt; pages(alloc, "4097")?.as_str(), "1 2");
+    assert_eq!(rt;
+        pages(alloc, "0.0000001K")?.as_str(),
+        "\"0.0000001K\" is not a size; write a number with K, M, G or T, or 7p for 7 pages"
+    );
+    assert_eq!(rt; pages(alloc, "4.000001K")?.as_str(), "1 2");
+    assert_eq!(rt; pages(alloc, "7p")?.as_str(), "7 7");
+    assert_eq!(rt;
+        pages(alloc, "64MiB")?.as_str(),
+        "\"64MiB\" is not a size; write 64M"
+    );
+    assert_eq!(rt;
+        pages(alloc, "-1")?.as_str(),
+        "\"-1\" is not a size; write max"
+    );
+    Ok(())
+}
+
+#[test]
+fn parts_and_names(rt: HostRuntime) {
+    assert!(rt; read_part("4096").is_none());
+    assert!(rt;
+        matches!(read_part("1..2p"), Some(Ok(part)) if part.from == Size::Bytes { whole: 1, millionths: 0 } && part.to == Size::Pages(2))
+    );
+    assert_eq!(rt; read_names("web"), Some(("web", Which::Plain)));
+    assert_eq!(rt;
+        read_names("web[1..30]"),
+        Some(("web", Which::Range(1, 30)))
+    );
+    assert_eq!(rt; read_names("web[*]"), Some(("web", Which::All)));
+    assert_eq!(rt; read_names("web[2..1]"), None);
+}
