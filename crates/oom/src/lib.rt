@@ -100,8 +100,8 @@ fn highest_with(flags: &Flags, highest: Option<GroupId>, here: GroupId) -> Optio
     }
 }
 
-/// The live task at or under the limit with the most mappings; of equals, the one with the lowest number (kernel:
-/// select_bad_process).
+/// The live task at or under the limit with the most mappings. If several have the most, the one with the lowest
+/// number (kernel: select_bad_process).
 ///
 /// The call looks at each task number once. For a live task it walks up the tree from the task's group. A task's
 /// number of mappings is stored with its page table.
@@ -115,7 +115,7 @@ pub fn victim(tree: &Tree, spaces: &Spaces, limit: GroupId) -> Option<TaskId>
     worst.map(|candidate| candidate.task)
 }
 
-/// The best candidate so far, after a look at another task, whose number is higher.
+/// The candidate with the most mappings so far, after a look at another task, whose number is higher.
 fn worst_with(
     tree: &Tree,
     spaces: &Spaces,
