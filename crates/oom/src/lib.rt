@@ -11,7 +11,7 @@
 //!    candidate without mappings is the victim only if no candidate has any.
 //! 4. If there is no candidate, there is no victim.
 //! 5. The killer then checks the groups from the victim's group up to the limit group, including both, for
-//!    `1` in `memory.oom.group`. If any has it, the highest of them dies with the victim: all live tasks
+//!    `1` in `memory.oom.group` (the flag). If any has it, the highest of them dies with the victim: all live tasks
 //!    in and below it. No other group is checked.
 //!
 //! For example, for the limit group `/a`:
