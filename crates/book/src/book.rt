@@ -45,10 +45,10 @@ use trace::Trace;
 
 /// The groups, pages and tasks of one machine, with the history of events and replies.
 ///
-/// A contract sees it as its past: the machine's state, the history with the newest entry first, the order in which
-/// pages are evicted, and how many passes were handed out. The history is always legal: it leads from the opening to
-/// that state by steps of the plain machine. The history is right if each page that arrived brought what was last
-/// written, whatever the files contained at first. Then each read in it returned the last write.
+/// A contract sees the book's past: the machine's state, the history with the newest entry first, the order of
+/// eviction, and how many passes were handed out. The history is always legal: it leads from the opening to that
+/// state by steps of the plain machine. The history is right if each page that arrived brought what was last written,
+/// whatever the files contained at first. Then each read in it returned the last write.
 ///
 /// [`Book::close`] must spend a book.
 pub struct Book {
@@ -190,8 +190,8 @@ impl Book {
         Reply::Ok
     }
 
-    /// Whether this book handed out the pass, and the number of its worker's entries equals the number of the pass's
-    /// answers that are in the trace.
+    /// Whether this book handed out the pass, and its worker has the same number of entries as the pass has answers
+    /// in the trace.
     fn is_current(&self, pass: &Pass) -> bool
         ensures { result ≡ is_current self.now pass.now }
     {

@@ -126,8 +126,8 @@ pub enum Decision<'e> {
 }
 
 impl Decision<'_> {
-    /// How many entries of the trace it needs: two if a transfer begins, one of them for its end, or if a page is
-    /// dropped.
+    /// How many entries of the trace the decision needs. It needs two if a page is dropped, or if a transfer begins:
+    /// one of them is for its end.
     pub fn entries(&self) -> usize
         ensures { result ≡ entries_for self.now }
     {

@@ -57,7 +57,7 @@ impl Flags {
         self.flags.push_reserved(OomGroup::Single);
     }
 
-    /// The group's flag. The number of no group has no flag.
+    /// The group's flag. A number without a group has no flag.
     pub fn flag(&self, group: GroupId) -> OomGroup
         ensures { result ≡ flag_at self.now.flags group.0 }
     {

@@ -89,8 +89,8 @@ impl Lineage {
         self.groups.len()
     }
 
-    /// The parent of a group (kernel: parent_mem_cgroup). `None` for the root and for a number of
-    /// no group.
+    /// The parent of a group (kernel: parent_mem_cgroup). `None` for the root and for a number
+    /// without a group.
     pub fn parent(&self, group: GroupId) -> Option<GroupId>
         ensures parent { option_map (λ g. g.0) result ≡ (node_at self.now.tree group.0).parent }
         ensures lineage { IsLineage self.now.tree }

@@ -172,8 +172,8 @@ impl Tree {
         self.by_path.get(path).copied()
     }
 
-    /// The parent of a group (kernel: parent_mem_cgroup). `None` for the root and for a number of no
-    /// group.
+    /// The parent of a group (kernel: parent_mem_cgroup). `None` for the root and for a number
+    /// without a group.
     pub fn parent(&self, group: GroupId) -> Option<GroupId>
         ensures parent { option_map (λ g. g.0) result ≡ (node_at self.now group.0).parent }
         ensures tree { IsGroupTree self.now }

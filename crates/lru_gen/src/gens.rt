@@ -22,7 +22,7 @@ use std::alloc::{AllocError, Global};
 use std::marker::Model;
 use std::mem::size_of;
 
-// 31 bits count the lists, and each group has eight.
+// The number of lists fits in 31 bits, and each group has eight lists.
 const MAX_GROUPS: usize = (1 << 28) - 1;
 
 // The bytes of a group that the first lines of the crate state, without its eight lists of 8 bytes each.
@@ -283,8 +283,8 @@ impl Gens {
         requires group { group.0 < length self.old.groups }
         requires four { (row_of kind (gens_of self.old group.0)).min_seq + 3 ≡ (gens_of self.old group.0).max_seq }
         ensures groups { self.new ≡ sets self.old group.0 (on_row kind merged (gens_of self.old group.0)) }
-        // At most five nodes' links change: those of the two heads, of the first and the last moved page, and of the
-        // page that follows them.
+        // At most five nodes' links change: the two heads, the first and the last moved page, and the page that follows
+        // them.
         ensures few { KeepsLinksOfMerge (lists_of self.old.groups) (lists_of self.new.groups)
             (slot group.0 kind (row_of kind (gens_of self.old group.0)).min_seq)
             (slot group.0 kind ((row_of kind (gens_of self.old group.0)).min_seq + 1)) }

@@ -140,7 +140,8 @@ pub enum Word {
     Killed,
     /// The actor has no command.
     Idle,
-    /// `busy`: the page is in transfer, or a page at or below the group is and may become free.
+    /// `busy`: the page is in transfer; or a page of the group, or of one below it, is in transfer and may
+    /// become free.
     Busy,
     /// `EIO`: a call of the device failed.
     Io,

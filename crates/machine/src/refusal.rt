@@ -17,7 +17,7 @@ pub enum Refusal {
     NoTask,
     /// The task's number was used before.
     NumberUsed,
-    /// The trace has no room for the entries that the reply adds.
+    /// The trace has no room for the entries that the reply needs.
     TraceFull,
     /// Memory ran out.
     NoMemory,
@@ -25,8 +25,9 @@ pub enum Refusal {
     Stranger,
     /// There is no such virtual page, or no such offset in it.
     BadPlace,
-    /// `EINVAL`: an invalid path or amount, a task's number out of range, a file's mode, a
-    /// configuration out of its limits, or a command that is not one of its actor's.
+    /// `EINVAL`: an invalid path or amount, a task's number or a configuration out of its limits,
+    /// or a command that is not one of its actor's. Also a read or write that the control file does
+    /// not allow.
     Invalid,
 }
 

@@ -11,7 +11,7 @@
 //!    candidate without mappings is the victim only if no candidate has any.
 //! 4. If there is no candidate, there is no victim.
 //! 5. The killer then checks the groups from the victim's group up to the limit group, including both, for
-//!    `1` in `memory.oom.group`. If any has it, the highest of them dies with the victim: all live tasks
+//!    `1` in `memory.oom.group` (the flag). If any has it, the highest of them dies with the victim: all live tasks
 //!    in and below it. No other group is checked.
 //!
 //! For example, for the limit group `/a`:
@@ -100,8 +100,8 @@ fn highest_with(flags: &Flags, highest: Option<GroupId>, here: GroupId) -> Optio
     }
 }
 
-/// The live task at or under the limit with the most mappings; of equals, the one with the lowest number (kernel:
-/// select_bad_process).
+/// The live task at or under the limit with the most mappings. If several have the most, the one with the lowest
+/// number (kernel: select_bad_process).
 ///
 /// The call looks at each task number once. For a live task it walks up the tree from the task's group. A task's
 /// number of mappings is stored with its page table.
@@ -115,7 +115,7 @@ pub fn victim(tree: &Tree, spaces: &Spaces, limit: GroupId) -> Option<TaskId>
     worst.map(|candidate| candidate.task)
 }
 
-/// The best candidate so far, after a look at another task, whose number is higher.
+/// The candidate with the most mappings so far, after a look at another task, whose number is higher.
 fn worst_with(
     tree: &Tree,
     spaces: &Spaces,

@@ -162,8 +162,8 @@ impl Counters {
         self.limits[group.0 as usize].max = max;
     }
 
-    /// How many of the pages that it and all groups below it use the group claims to protect, at most,
-    /// by `memory.min` or `memory.low`.
+    /// The value of `memory.min` or `memory.low`: the most pages that the group claims to protect, of
+    /// those that it and all groups below it use.
     pub fn guard(&self, guard: Guard, group: GroupId) -> Amount
         requires live { is_live self.now.tree group.0 ≡ true }
         ensures { result ≡ guard_of guard (limits_at self.now.limits group.0) }
@@ -171,8 +171,8 @@ impl Counters {
         self.limits[group.0 as usize].guard(guard)
     }
 
-    /// Sets how many of the pages that it and all groups below it use the group claims to protect, at
-    /// most (kernel: page_counter_set_min, page_counter_set_low).
+    /// Sets the most pages that the group claims to protect, of those that it and all groups below it
+    /// use (kernel: page_counter_set_min, page_counter_set_low).
     pub fn set_guard(&mut self, guard: Guard, group: GroupId, amount: Amount)
         requires live { is_live self.old.tree group.0 ≡ true }
         ensures limits { self.new.limits ≡ slice_set self.old.limits group.0 (with_guard (limits_at self.old.limits group.0) guard amount) }
@@ -393,8 +393,8 @@ fn counts_fit(usage: &[u64])
     let _ = usage.len();
 }
 
-/// Sets the group's count, and its claim to the part of it that its limits allow (kernel: what
-/// page_counter_try_charge and page_counter_cancel do at one counter).
+/// Sets the group's count. Its claims become the parts of the count that its limits protect (kernel:
+/// what page_counter_try_charge and page_counter_cancel do at one counter).
 fn set_usage(
     lineage: &Lineage,
     limits: &[Limits],

@@ -91,8 +91,8 @@ impl State {
         merge_marks(&self.parts.pages, &mut self.parts.held, word, bits);
     }
 
-    /// Begins to read in what the source names, charged to the group, which has room for it. This is memory of that
-    /// group on its slot, or a page of a file that no page holds, from its home block (kernel: do_swap_page,
+    /// Begins to read in what the source names, charged to the group, which has room for it. The source is memory of
+    /// that group on its slot, or a page of a file that no page holds, on its home block (kernel: do_swap_page,
     /// filemap_add_folio). `AllocError` if memory runs out, and then nothing changes.
     pub fn start_in(
         &mut self,

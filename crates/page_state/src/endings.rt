@@ -15,8 +15,8 @@ use machine::record::Direction;
 use pages::{End, InTicket, OutTicket, Pages};
 
 impl State {
-    /// Ends the read-in of the ticket's page in this way. If the page is in its frame, it has the bytes
-    /// that the ticket read. Returns those bytes. Allocates no memory.
+    /// Ends the read-in of the ticket's page as `end` says. If the page is in its frame, it has the
+    /// bytes that the ticket read. Returns those bytes. Allocates no memory.
     pub fn settle_in(&mut self, ticket: InTicket, end: End) -> PageBytes
         requires { is_in_flight In self.old.tables.pages ticket.number ≡ true }
         ensures ends { (p : ℕ) (label : Label) (f b : ℕ) → HasResidence self.old.tables.pages p label (residence.Coming f b ticket.number)
@@ -35,7 +35,7 @@ impl State {
         bytes
     }
 
-    /// Ends the write-out of the ticket's page in this way. If the page is in its frame, it is
+    /// Ends the write-out of the ticket's page as `end` says. If the page is in its frame, it is
     /// unchanged. Allocates no memory.
     pub fn settle_out(&mut self, ticket: OutTicket, end: End)
         requires { is_in_flight Out self.old.tables.pages ticket.number ≡ true }

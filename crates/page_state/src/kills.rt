@@ -65,9 +65,9 @@ impl State {
         1
     }
 
-    /// Ends all live tasks at or under the group in this way. Their virtual pages map nothing any more. The
-    /// pages that nothing else maps are gone, except those in transfer. The call looks at all task numbers.
-    /// Allocates no memory.
+    /// Ends all live tasks at or under the group as `life` says. Their virtual pages map nothing any more.
+    /// The pages that nothing else maps are gone, except those in transfer. The call looks at all task
+    /// numbers. Allocates no memory.
     pub fn end_tasks(&mut self, group: GroupId, life: Life)
         requires { is_live_life life ≡ false }
         ensures { EndsTasks self.old self.new (is_candidate self.old.tables.tree self.old.tables.tasks group.0) life }
@@ -78,7 +78,7 @@ impl State {
         }
     }
 
-    /// Ends the task in this way, if it is live and at or under the group.
+    /// Ends the task as `life` says, if it is live and at or under the group.
     fn end_task_under(&mut self, group: GroupId, task: TaskId, life: Life)
         requires { is_live_life life ≡ false }
         ensures { EndsTasks self.old self.new (λ u. (u == task.0) && is_candidate self.old.tables.tree self.old.tables.tasks group.0 task.0) life }

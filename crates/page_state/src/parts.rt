@@ -180,7 +180,7 @@ impl Parts {
         ticket
     }
 
-    /// Ends the read-in of the page in this way. If it ends in its frame, the page has the bytes that the ticket
+    /// Ends the read-in of the page as `end` says. If it ends in its frame, the page has the bytes that the ticket
     /// read, and enters the generation that the placement chooses. If it ends on its block, the page is uncharged.
     /// Returns the ticket's bytes. Allocates no memory.
     pub fn settle_in(
@@ -222,7 +222,7 @@ impl Parts {
         PageBytes::new(buffer)
     }
 
-    /// Ends the write-out of the page in this way. If it ends on its block, the page is uncharged. If it ends in
+    /// Ends the write-out of the page as `end` says. If it ends on its block, the page is uncharged. If it ends in
     /// its frame, the page is unchanged, and enters the youngest generation. Allocates no memory.
     pub fn settle_out(&mut self, page: PageId, ticket: OutTicket, end: End, placement: Placement)
         requires agree { PartsAgree self.old }

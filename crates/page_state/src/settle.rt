@@ -35,8 +35,8 @@ pub fn fill(pages: &mut Pages, page: PageId, ticket: &InTicket, end: End)
     }
 }
 
-/// Ends the transfer of the page in this way, and gives back what the page no longer owns. Returns the page's
-/// group and type, and what the ticket carried.
+/// Ends the transfer of the page as `end` says, and gives back what the page no longer owns. Returns the
+/// page's group and type, and what the ticket carried.
 pub fn end_transfer<B: Carries>(
     page: PageId,
     ticket: Ticket<B>,

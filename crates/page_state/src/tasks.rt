@@ -46,8 +46,8 @@ impl State {
         self.spaces.attach(task, group);
     }
 
-    /// Ends a live task in this way. Its virtual pages map nothing any more, and the pages that nothing else
-    /// maps are gone, except those in transfer. Allocates no memory.
+    /// Ends a live task as `life` says. Its virtual pages map nothing any more, and the pages that nothing
+    /// else maps are gone, except those in transfer. Allocates no memory.
     pub fn end_task(&mut self, task: TaskId, life: Life)
         requires alive { lives self.old.tables.tasks task.0 ≡ true }
         requires ended { is_live_life life ≡ false }

@@ -58,7 +58,7 @@ use table::{
     take_at, told_at, unlist, write_at,
 };
 
-// Each group has a list, and 31 bits count the lists.
+// Each group has a list, and the number of lists fits in 31 bits.
 const MAX_GROUPS: u32 = (1 << 31) - 1;
 
 /// The pages by their numbers, the transfers in flight by theirs, and the pages of each group. [`Pages::into_owned`]
@@ -510,8 +510,8 @@ impl Pages {
         }
     }
 
-    /// Moves the page, and its charge if it has one, to the parent of its group (kernel: the charges of a memory cgroup
-    /// that is removed become its parent's). Allocates no memory.
+    /// Moves the page, and its charge if it has one, to the parent of its group (kernel: a removed memory cgroup's
+    /// charges become its parent's). Allocates no memory.
     pub fn reparent(&mut self, counters: &mut Counters, page: PageId, parent: GroupId)
         requires there { (x : Page) × (page_at self.old.pages page.0 ≡ Some x) × ((node_at counters.old.tree x.group).parent ≡ Some parent.0) × (has_frame x ≡ true → IsOut counters.old x.group) }
         requires parent { parent.0 < self.old.groups }

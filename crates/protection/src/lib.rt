@@ -51,8 +51,8 @@ use machine::id::GroupId;
 use machine::record::Guard;
 use page_counter::Counters;
 
-/// A reclaim of the target, as the protection of the groups below it depends on it (kernel: the
-/// arguments of mem_cgroup_calculate_protection).
+/// What the protection of the groups below the target of a reclaim depends on (kernel: the arguments of
+/// mem_cgroup_calculate_protection).
 #[derive(Clone, Copy)]
 pub struct Protection<'t, 'c> {
     /// The groups.

@@ -6,7 +6,7 @@ ghost use Rattle.machine.specs.Tree.{is_live};
 use lru_gen::Gens;
 use protection::Protection;
 
-/// A reclaim of a target, as a pass over the groups at and below it depends on it (kernel:
+/// What a pass over the groups at and below the target of a reclaim depends on (kernel:
 /// `struct scan_control`).
 #[derive(Clone, Copy)]
 pub struct ScanControl<'t, 'c, 'g> {

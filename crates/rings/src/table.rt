@@ -265,8 +265,8 @@ impl Rings {
     }
 
     /// Does nothing. The contract states what always holds: no page is in two lists, or twice in one.
-    /// The number of each page in a list is among the page numbers. A number of 31 bits counts the
-    /// lists.
+    /// The number of each page in a list is among the page numbers. The number of lists fits in 31
+    /// bits.
     pub fn lists_are_apart(&self)
         ensures apart { AreApart self.now.lists }
         ensures within { (p : ℕ) → is_listed self.now.lists p ≡ true → p < self.now.numbers }

@@ -264,8 +264,8 @@ impl Spaces {
         Some(page)
     }
 
-    /// Ends the live task in this way, and frees its page table (kernel: `do_exit`, `mmput`). The caller
-    /// has unmapped its pages.
+    /// Ends the live task as `life` says, and frees its page table (kernel: `do_exit`, `mmput`). The
+    /// caller has unmapped its pages.
     pub fn exit(&mut self, task: TaskId, life: Life)
         requires there { lives self.old.tasks task.0 ≡ true }
         requires ended { is_live_life life ≡ false }
@@ -285,8 +285,8 @@ impl Spaces {
     }
 
     /// Does nothing. The contract states what always holds. A virtual page that maps a page belongs to a
-    /// live task, and its number is below 1,024. The page has a number that exists, and so has a live
-    /// task's group.
+    /// live task, and its number is below 1,024. The page's number exists, and so does the number of a
+    /// live task's group.
     pub fn owners(&self)
         ensures alive { (t v p : ℕ) → mapped_at self.now.page_tables t v ≡ Some p → lives self.now.tasks t ≡ true }
         ensures within { (t v p : ℕ) → mapped_at self.now.page_tables t v ≡ Some p → v < task_pages }
@@ -342,7 +342,7 @@ fn put_table(tables: &mut Vec<PageTable>, index: usize, table: PageTable, alloc:
     tables[index] = table;
 }
 
-/// Ends an existing task in this way.
+/// Ends an existing task as `life` says.
 fn end_task(tasks: &mut Vec<Option<Task>>, task: TaskId, life: Life)
     requires { lives tasks.old.items task.0 ≡ true }
     ensures ends { SetsTask tasks.old.items task.0 (group_of_task tasks.old.items task.0) life tasks.new.items }

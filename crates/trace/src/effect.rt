@@ -54,7 +54,7 @@ fn is_place_of(page: Page, task: TaskId, place: Place) -> bool
     }
 }
 
-/// Whether this is a page of the task's memory.
+/// Whether the page is one of the task's memory.
 fn is_memory_of(page: Page, task: TaskId) -> bool
     ensures { result ≡ is_memory_of page task.0 }
 {
@@ -67,7 +67,7 @@ fn is_memory_of(page: Page, task: TaskId) -> bool
     }
 }
 
-/// Whether this is this virtual page of the task.
+/// Whether the page is the task's virtual page with this number.
 fn is_page_of_task(page: Page, task: TaskId, number: u32) -> bool
     ensures { result ≡ is_page_of_task page task.0 number }
 {

@@ -88,8 +88,8 @@ impl Trace {
         self.heads.reserve(task)
     }
 
-    /// Frees the memory for the links of a task that has ended, if no entry names it: the entry of a group kill names
-    /// only the victim. The trace does not change.
+    /// Frees the memory for the links of a task that has ended without an entry that names it. (The entry of a group
+    /// kill names only the victim.) The trace does not change.
     pub fn release(&mut self, task: TaskId)
         ensures { self.new ≡ self.old }
     {

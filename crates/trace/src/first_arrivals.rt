@@ -113,7 +113,7 @@ pub fn known_arrival<'a>(
     }
 }
 
-/// Notes that a page of a file arrived by the entry at this place, if none is noted.
+/// Notes that a page of a file arrived by the entry at this place, if no arrival of it is noted yet.
 fn note_first(rows: &mut [Row], file: u32, page: u32, at: u32)
     ensures { (f q : ℕ) → (bytes : List ℕ) → MayBe (link_in rows.new f q) (arrival_after (if ((file == f) && (page == q)) then Some bytes else None) at (link_in rows.old f q)) }
 {

@@ -205,7 +205,7 @@ impl Heads {
         }
     }
 
-    /// Updates what is known by an entry, whose place in the trace is this one.
+    /// Updates what is known, for an entry at this place of the trace.
     pub fn note(&mut self, entry: &Entry, at: u32)
         ensures { (p : PageOf) → MayBe (known_in self.new p) (link_after entry.now.event entry.now.reply at (known_in self.old) p) }
     {
