@@ -1,12 +1,14 @@
-/* The calls of memcgrun.h over the proved functions: they read the options, and allocate the texts. No proof covers this file. */
+/* The calls of memcgrun.h over the proved functions. They read the options, and allocate the texts. No proof covers
+ * this file. */
 #include "memcgrun.h"
 
 #include <stdlib.h>
 
 /* ---- the proved functions. crates/memcgrun_c/src/lib.rt has their contracts
  *
- * No program calls them: what is declared here may change with any version. Their caller owes what no contract can ask of C: no pointer is null, even if its
- * length is 0; no two of the memories overlap; each length is below 2^63; and each bool is 0 or 1. */
+ * No program calls them: what is declared here may change with any version. Their caller has to keep what no contract
+ * can ask of C. No pointer is null, even if its length is 0; no two of the memories overlap; each length is below 2^63;
+ * and each bool is 0 or 1. */
 
 struct memcgrun_proved_asked {
     uint32_t turns;
@@ -29,7 +31,7 @@ uint8_t memcgrun_proved_check(const uint8_t *script, size_t script_len, bool as_
                               uint8_t *out, size_t out_len, uint8_t *err, size_t err_len,
                               struct memcgrun_lengths *lengths);
 
-/* ---- what the calls are given */
+/* ---- the arguments of the calls */
 
 /* The first run's room, which few scripts exceed. Pages of it that are not written to cost nothing. */
 enum { OUT_ROOM = 1 << 16, OUT_ROOM_EACH = 16, ERR_ROOM = 2048 };
@@ -43,7 +45,7 @@ enum call { SCHEDULE, CHART, CHECK };
 
 static const char *const names[] = {"schedule", "chart", "check"};
 
-/* Which call it is, and what it is given. */
+/* A call, with its arguments. */
 struct run {
     enum call call;
     const uint8_t *script;
@@ -81,7 +83,8 @@ static bool refuse(struct line *line, const char *why, const char *name, const c
     return false;
 }
 
-/* A bool of the options, by its place. It is read as a byte, since a caller in another language may have left any byte there. */
+/* A bool of the options, by its place. It is read as a byte, since a caller in another language may have left any byte
+ * there. */
 struct flag {
     size_t at;
     const char *name;
@@ -96,7 +99,7 @@ static const struct flag flags[] = {
     FLAG(explain, true, false), FLAG(quiet, false, false), FLAG(summary, false, false),
 };
 
-/* Nothing of the struct is padding, so that each byte of it has a meaning, or is one of those that are reserved. */
+/* The struct has no padding. Each of its bytes has a meaning, or is reserved. */
 _Static_assert(sizeof(struct memcgrun_options) == offsetof(struct memcgrun_options, reserved) + sizeof((struct memcgrun_options){0}.reserved),
                "a member behind reserved, or padding");
 
@@ -105,7 +108,8 @@ static bool takes(enum call call, const struct flag *flag)
     return call == SCHEDULE || (call == CHART ? flag->is_charts : flag->is_checks);
 }
 
-/* Reads as many bytes as the caller's version of the options has. Those that it lacks are 0, their default, and those that this version lacks have to be 0. */
+/* Reads the bytes that the caller's version of the options has. Those that it lacks are 0, their default. Those that
+ * this version lacks have to be 0. */
 static bool copy_options(const struct memcgrun_options *given, struct memcgrun_options *options, struct line *line)
 {
     const uint8_t *from = (const uint8_t *)given;
@@ -146,7 +150,7 @@ static bool read_options(const struct run *run, struct memcgrun_proved_asked *as
 
 /* ---- one run */
 
-/* The proved functions take no null pointer, even where the length is 0, and no length from 2^63 on. */
+/* The proved functions take no null pointer, even if the length is 0, and no length from 2^63 on. */
 static uint8_t nowhere[3];
 
 static size_t bounded(size_t len)
@@ -226,7 +230,8 @@ void memcgrun_text_free(struct memcgrun_text *text)
     text->len = 0;
 }
 
-/* A run that needs more room than there was is made again. It may need still more then: what it could not have for want of memory it may have now. */
+/* A run that needs more room than there was is repeated. It may then need even more: memory that it did not get the
+ * first time it may get now. */
 static enum memcgrun_status texts_of(const struct run *run, struct memcgrun_text *out, struct memcgrun_text *err)
 {
     struct memcgrun_lengths has = {OUT_ROOM, ERR_ROOM}, wanted;

@@ -1,8 +1,9 @@
 /* memcgrun, a simulator of the memory controller of Linux cgroup v2, as a library.
  *
- * A call takes a script of memory control groups, runs it over a new device, and gives its answers, its chart, or the result of its check. A call keeps
- * nothing, so several threads may call at the same time. Proved code does the work (crates/memcgrun_c/src/lib.rt has the contracts). The calls below are C
- * over it (library/memcgrun.c), which is tested and not proved. docs/EMBED.md shows callers in C, Rust and Go. */
+ * A call takes a script of memory control groups and runs it over a new device. It gives the script's answers, its
+ * chart, or the result of its check. A call keeps nothing, so several threads may call at the same time. Proved code
+ * does the work (crates/memcgrun_c/src/lib.rt has the contracts). The calls below are C over it (library/memcgrun.c),
+ * which is tested and not proved. docs/EMBED.md shows callers in C, Rust and Go. */
 #ifndef MEMCGRUN_H
 #define MEMCGRUN_H
 
@@ -22,29 +23,37 @@ const char *memcgrun_version(void);
 
 /* What a call answers. A later version may add more. */
 enum memcgrun_status {
-    /* The script ran to its end. From memcgrun_check: and it answered what it expects. A command that got too little memory answers NoMemory in out. */
+    /* The script ran to its end. From memcgrun_check: it also answered what it expects. A command that got too little
+     * memory answers NoMemory in out. */
     MEMCGRUN_OK = 0,
-    /* Nothing ran: a line of the script is faulty, or the script is longer than 64 MiB. err names the first faulty line and its fault. */
+    /* Nothing ran: a line of the script is faulty, or the script is longer than 64 MiB. err names the first faulty line
+     * and its fault. */
     MEMCGRUN_BAD_SCRIPT = 1,
-    /* There was too little memory. out has the beginning of the answers, or nothing; err may have the beginning of a line that says for what. */
+    /* There was too little memory. out has the beginning of the answers, or nothing. err may have the beginning of a
+     * line that says what the memory was for. */
     MEMCGRUN_NO_MEMORY = 2,
-    /* With strict: a line was refused, and the run ended there. out has all answers up to that line's, and err says which line it was, and why. */
+    /* With strict: a line was refused, and the run ended there. out has all answers up to and including that line's.
+     * err says which line it was, and why. */
     MEMCGRUN_REFUSED = 3,
-    /* From memcgrun_check: the script ran, and its answers differ from those it expects. out names the first difference. */
+    /* From memcgrun_check: the script ran, and its answers differ from those that it expects. out names the first
+     * difference. */
     MEMCGRUN_DIFFERS = 4,
     /* Nothing ran: the options are not valid, or the call does not take one of them. err says which. */
     MEMCGRUN_BAD_OPTIONS = 5
 };
 
-/* What a caller may ask for beside the answers. Every default is 0, also that of each member that a later version adds. Set only what differs, as in
+/* What a caller may ask for in addition to the answers. Every default is 0, also for each member that a later version
+ * adds. Set only what differs, as in
  *
  *     struct memcgrun_options options = MEMCGRUN_OPTIONS_INIT;
  *     options.strict = true;
  *
- * or set size to sizeof(struct memcgrun_options) and all other bytes to 0. A null pointer to options asks for the defaults.
+ * or set size to sizeof(struct memcgrun_options) and all other bytes to 0. A null pointer to options asks for the
+ * defaults.
  *
- * size says which version of this header the program was compiled with. A library that is newer gives the members that the program does not have their
- * defaults. A library that is older accepts members that it does not have if they are 0, and else answers MEMCGRUN_BAD_OPTIONS. */
+ * size says which version of this header the program was compiled with. A newer library sets the members that the
+ * program does not have to their defaults. An older library accepts members that it does not have if they are 0, and
+ * answers MEMCGRUN_BAD_OPTIONS otherwise. */
 struct memcgrun_options {
     size_t size;
     uint32_t turns;      /* the most turns that a line takes before it answers `turn limit` (--turns); 0 means 1,000 */
@@ -67,20 +76,23 @@ struct memcgrun_text {
     size_t len;
 };
 
-/* Runs a script, as `memcgrun schedule` does, with any options. out gets the answers, a line each; err gets what explain and summary ask for, and then, if the
- * status is neither MEMCGRUN_OK nor MEMCGRUN_NO_MEMORY, the whole of the lines that say why. The script may be null if its length is 0.
+/* Runs a script, as `memcgrun schedule` does, with any options. out gets the answers, one per line. err gets what
+ * explain and summary ask for. If the status is neither MEMCGRUN_OK nor MEMCGRUN_NO_MEMORY, err then gets all of the
+ * lines that say why. The script may be null if its length is 0.
  *
- * The caller gives both texts to memcgrun_text_free, whatever the status is. After MEMCGRUN_NO_MEMORY their bytes may be null. */
+ * The caller gives both texts to memcgrun_text_free, whatever the status is. After MEMCGRUN_NO_MEMORY their bytes may
+ * be null. */
 enum memcgrun_status memcgrun_schedule(const uint8_t *script, size_t script_len, const struct memcgrun_options *options,
                                        struct memcgrun_text *out, struct memcgrun_text *err);
 
-/* Draws the same run, as `memcgrun chart` does: out gets the memory that each group was charged with after each line, as a table of comma-separated values,
- * or else as a picture, SVG. Takes the options turns, as_linux and explain. Nothing is drawn unless the status is MEMCGRUN_OK. */
+/* Draws the same run, as `memcgrun chart` does. out gets the memory that each group was charged with after each line:
+ * with table as comma-separated values, and otherwise as a picture, SVG. Takes the options turns, as_linux and explain.
+ * Nothing is drawn unless the status is MEMCGRUN_OK. */
 enum memcgrun_status memcgrun_chart(const uint8_t *script, size_t script_len, const struct memcgrun_options *options, bool table,
                                     struct memcgrun_text *out, struct memcgrun_text *err);
 
-/* Compares the answers of a script with those that its lines `#> ..` expect, as `memcgrun check` does. out gets one line with the result, if there is one.
- * Takes the option as_linux. */
+/* Compares the answers of a script with those that its lines `#> ..` expect, as `memcgrun check` does. out gets one
+ * line with the result, if there is one. Takes the option as_linux. */
 enum memcgrun_status memcgrun_check(const uint8_t *script, size_t script_len, const struct memcgrun_options *options,
                                     struct memcgrun_text *out, struct memcgrun_text *err);
 
@@ -89,16 +101,18 @@ void memcgrun_text_free(struct memcgrun_text *text);
 
 /* ---- The same calls into buffers of the caller */
 
-/* The numbers of bytes of both texts, of which a buffer may have taken only the first. */
+/* The numbers of bytes of both texts. A buffer may have taken only the first of these bytes. */
 struct memcgrun_lengths {
     size_t out;
     size_t err;
 };
 
-/* Each writes as many bytes into a buffer as it has room for, changes nothing after them, adds no 0, and sets lengths to the numbers of bytes that there are.
- * If a buffer is too short, call again with more room: the same script and options give the same bytes.
+/* Each call writes into a buffer all bytes that it has room for. It changes nothing after them, and adds no 0. It sets
+ * lengths to the full numbers of bytes. If a buffer is too short, call again with more room: the same script and
+ * options give the same bytes.
  *
- * The script and the buffers may be null if their lengths are 0. lengths is not null, and no two of the memories overlap: nothing checks that. */
+ * The script and the buffers may be null if their lengths are 0. lengths must not be null, and no two of the memories
+ * may overlap: nothing checks that. */
 enum memcgrun_status memcgrun_schedule_into(const uint8_t *script, size_t script_len, const struct memcgrun_options *options,
                                             uint8_t *out, size_t out_len, uint8_t *err, size_t err_len,
                                             struct memcgrun_lengths *lengths);

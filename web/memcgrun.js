@@ -1,5 +1,5 @@
 // Runs scripts in the module memcgrun.wasm. Each call has an instance of its own: the memory of a module never shrinks,
-// and an instance that was stopped by an error is not to be called again.
+// and an instance that an error stopped must not be called again.
 'use strict';
 
 class Memcgrun {
@@ -12,8 +12,9 @@ class Memcgrun {
     this.compiled = compiled;
   }
 
-  // What a script prints, as { status, out, err }: a status of Memcgrun.STATUS, and the two texts of `memcgrun schedule`, in which the file
-  // is called script. The options are those of the program: labels, strict, asLinux, explain, quiet and summary are true or false, and turns is a number.
+  // What a script prints, as { status, out, err }: a status of Memcgrun.STATUS, and the two texts of `memcgrun
+  // schedule`. These call the file `script`. The options are those of the program: labels, strict, asLinux, explain,
+  // quiet and summary are true or false, and turns is a number.
   schedule(script, options = {}) {
     return this.#call(script, options, 'page_schedule');
   }
@@ -31,7 +32,7 @@ class Memcgrun {
     if (!at || !texts) throw new Error('no memory for the script');
     new Uint8Array(exports.memory.buffer).set(given, Number(at));
     const status = exports[call](at, BigInt(given.length), turns, flagsOf(asked), texts);
-    // A text is where its bytes are, and how many.
+    // A text is the place of its bytes, and their number.
     const read = (text) => {
       const [from, length] = new BigUint64Array(exports.memory.buffer, Number(text), 2);
       return new TextDecoder().decode(new Uint8Array(exports.memory.buffer, Number(from), Number(length)));
@@ -46,7 +47,7 @@ class Memcgrun {
 // What a call answers, as memcgrun.h has it.
 Memcgrun.STATUS = Object.freeze({ OK: 0, BAD_SCRIPT: 1, NO_MEMORY: 2, REFUSED: 3, DIFFERS: 4, BAD_OPTIONS: 5 });
 
-// The bits of module.c.
+// The bits of the flags of module.c.
 const FLAGS = { labels: 1, strict: 2, asLinux: 4, explain: 8, quiet: 16, summary: 32 };
 
 function flagsOf(asked) {

@@ -1,4 +1,5 @@
-/* What the page calls: the calls of library/memcgrun.c with arguments that JavaScript can give. No proof covers this file. */
+/* What the page calls: the calls of library/memcgrun.c, with arguments that JavaScript can give. No proof covers this
+ * file. */
 #include <memcgrun.h>
 
 /* The bits of flags, as memcgrun.js sets them. */

@@ -1,13 +1,13 @@
-// The page: a script in, its answers, its fault and its picture out.
+// The page: it takes a script, and shows its answers, its fault and its picture.
 'use strict';
 
 const part = (id) => document.getElementById(id);
 
-// The examples and the version, which a file beside this one has.
+// The examples and the version, from another file of the page.
 const examples = typeof EXAMPLES === 'undefined' ? [] : EXAMPLES;
 if (typeof VERSION !== 'undefined') part('version').textContent = VERSION;
 
-// A link carries the script behind its #.
+// A link carries the script after its #.
 const linked = () => {
   try {
     return decodeURIComponent(location.hash.slice(1));
@@ -16,7 +16,7 @@ const linked = () => {
   }
 };
 
-// The line that a fault names, as `line 7: ...`, or, of a script that was ended there, as `script:7: ...`; or 0.
+// The line that a fault names, or 0. A fault begins with `line 7: ...`, or with `script:7: ...` if the run ended there.
 function lineOf(fault) {
   const named = /^(?:line |script:)(\d+): /.exec(fault);
   return named ? Number(named[1]) : 0;
@@ -33,7 +33,7 @@ function showLine(line) {
   box.scrollTop = Math.max(0, (box.scrollHeight / lines.length) * (line - 4));
 }
 
-// What is said of lines, by their numbers: what comes after `script:7: `.
+// The messages about lines, by the lines' numbers: what follows `script:7: `.
 function saidOf(err) {
   const said = new Map();
   for (const line of err.split('\n')) {
@@ -43,7 +43,8 @@ function saidOf(err) {
   return said;
 }
 
-// Of what is said of an answer's line, why that line was refused or that task was killed. Its words and the answer itself are not in it.
+// The reason why an answer's line was refused or a task was killed, from the messages about the line. The line's words
+// and the answer itself are left out.
 function reasonOf(said, [, number, words, answer]) {
   const refusal = answer.split(' ').pop();
   for (const text of said.get(number) || []) {
@@ -55,7 +56,8 @@ function reasonOf(said, [, number, words, answer]) {
   return '';
 }
 
-// Shows the answers, those that refuse a line in red, and below an answer its reason where one is told. As a text they are the answers alone.
+// Shows the answers. Those that refuse a line are red, and below an answer is its reason, if there is one. Copied as a
+// text, they are only the answers.
 function showAnswers(out, err) {
   const said = saidOf(err);
   const lines = out.split('\n');
@@ -80,7 +82,7 @@ function showAnswers(out, err) {
   part('out').replaceChildren(...shown, plain);
 }
 
-// The picture is drawn by the module, and shown as an image, so that nothing in it could be run.
+// The module draws the picture. It is shown as an image, so that nothing in it can be run.
 function showChart(drawn) {
   const old = part('chart').firstChild;
   part('chart').replaceChildren();
@@ -102,7 +104,7 @@ function run(machine) {
     const took = performance.now() - start;
     const line = lineOf(err);
     showAnswers(out, err);
-    // Explanations of a run to its end are below their lines, if these have numbers.
+    // If a run came to its end and its lines have numbers, explanations are below their lines.
     part('err').textContent = status === 0 && labels ? '' : err;
     part('said').textContent = `${status === 0 ? 'ran to the end' : line ? `stopped at line ${line}` : 'stopped'}, ${took.toFixed(1)} ms`;
     showChart(machine.chart(script, { asLinux }));
