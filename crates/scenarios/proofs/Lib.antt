@@ -3,4 +3,5 @@ mod NearestLemmas
 mod PartLemmas
 mod PieceLemmas
 mod SizeLemmas
+mod TreeLemmas
 mod WordLemmas

@@ -1,5 +1,5 @@
 -- The lines of a scenario, and the tree that their blocks make.
-use Rattle.std.specs.Prelude.{ℕ, ◌+◌, Bool, true, false, ◌||◌, List, [], ◌∷◌, ◌++◌, length, codes, Option, Some, None, if◌then◌else◌}
+use Rattle.std.specs.Prelude.{◌≡◌, ℕ, ◌+◌, Bool, true, false, ◌||◌, List, [], ◌∷◌, ◌++◌, length, codes, map, Option, Some, None, if◌then◌else◌}
 use Rattle.std.specs.Str.{bytes_eq}
 use Rattle.scenarios.specs.declared.lines.LineKind.{LineKind}
 use Rattle.scenarios.specs.declared.lines.LineKind.TheVariants as line
@@ -104,3 +104,40 @@ abbrev pub flat : Tree → List TextLine
 flat Nothing = []
 flat (Line l more) = text_line l 0 ∷ flat more
 flat (Block l inner more) = text_line l (length (flat inner)) ∷ (flat inner ++ flat more)
+
+-- ---- the lines of a tree, as a text has them
+
+abbrev pub opens_block : LineKind → Bool
+opens_block line.Repeat = true
+opens_block line.Together = true
+opens_block line.Header = false
+opens_block line.Let = false
+opens_block line.End = false
+opens_block line.Other = false
+
+abbrev pub ends_block : LineKind → Bool
+ends_block line.End = true
+ends_block line.Header = false
+ends_block line.Let = false
+ends_block line.Repeat = false
+ends_block line.Together = false
+ends_block line.Other = false
+
+-- the lines of a tree, and none where a block ends
+abbrev pub written : Tree → List (Option WordLine)
+written Nothing = []
+written (Line l more) = Some l ∷ written more
+written (Block l inner more) = Some l ∷ (written inner ++ None ∷ written more)
+
+-- the lines of a text, and none where one of them ends a block
+abbrev pub mark_of : LineKind → WordLine → Option WordLine
+mark_of k l = if ends_block k then None else Some l
+
+abbrev pub marked : List WordLine → List (Option WordLine)
+marked ls = map (λ l. mark_of (kind_of l.words) l) ls
+
+-- each block of a tree has a line that opens one, and no other line opens or ends one
+abbrev pub IsFormed : Tree → Type 0
+IsFormed Nothing = Unit {0}
+IsFormed (Line l more) = (opens_block (kind_of l.words) ≡ false) × (ends_block (kind_of l.words) ≡ false) × IsFormed more
+IsFormed (Block l inner more) = (opens_block (kind_of l.words) ≡ true) × IsFormed inner × IsFormed more

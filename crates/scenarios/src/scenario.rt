@@ -1,10 +1,10 @@
 //! Scenarios: their lines, and the blocks that these form.
 
-ghost use Rattle.std.specs.Prelude.{◌≡◌, ℕ, ◌+◌, ◌-◌, ◌<◌, ◌^◌, ◌∷◌, ◌++◌, [], length, take, count_by, Some, None, true, false, OnOk, MatchResult};
+ghost use Rattle.std.specs.Prelude.{◌≡◌, ℕ, ◌+◌, ◌-◌, ◌<◌, ◌^◌, ◌∷◌, ◌++◌, [], length, take, count_by, Some, None, true, false, List, Ok, OnOk, MatchResult};
 ghost use Rattle.std.specs.Str.{is_utf8};
 ghost use Rattle.std.specs.Option.{option_map};
-ghost use Rattle.scenarios.specs.Lines.{kind_of, text_line};
-ghost use Rattle.scenarios.specs.Scenario.{Reads, line_words, at_start, begins_character, column_of_text, first_column, end_fault, place_fault, with_block, behind, scenario_of};
+ghost use Rattle.scenarios.specs.Lines.{kind_of, text_line, WordLine, tree_of, written, marked, IsFormed};
+ghost use Rattle.scenarios.specs.Scenario.{Reads, line_words, at_start, begins_character, column_of_text, first_column, end_fault, place_fault, with_block, behind, lines_of, scenario_of};
 ghost use Rattle.scenarios.specs.Building.{before_of, places_of, AreOpen, first_closed, lines_behind, rest_of, Goes};
 
 use crate::fault::{Cause, Fault, ReadError};
@@ -245,3 +245,10 @@ pub fn read(alloc: Global, text: &[u8]) -> Result<Scenario, ReadError>
     }
     reading.into_scenario()
 }
+
+/// A law: the tree of a faultless text has all its lines, in their order, with an `end` behind each block; and its blocks
+/// are those that the lines open.
+pub fn tree_has_the_lines()
+    ensures lines { (text : List ℕ) (ls : List WordLine) → lines_of text ≡ Ok ls → written (tree_of ls) ≡ marked ls }
+    ensures blocks { (text : List ℕ) (ls : List WordLine) → lines_of text ≡ Ok ls → IsFormed (tree_of ls) }
+{}
