@@ -1,18 +1,19 @@
 -- What is so at the end, when all seats are brought together.
-use Rattle.std.proofs.Common.{◌≡◌, ◌≢◌, ℕ, zero, suc, ◌+◌, ◌<◌, ◌≤◌, List, [], ◌∷◌, ◌++◌, length, reverse, get_or, All, sym, refl, ap, ◌∙◌, subst, arith, append_assoc}
+use Rattle.std.proofs.Common.{◌≡◌, ◌≢◌, ℕ, zero, suc, ◌+◌, ◌<◌, ◌≤◌, List, [], ◌∷◌, ◌++◌, map, length, reverse, get_or, All, sym, refl, ap, ◌∙◌, subst, arith, append_assoc}
 use Rattle.std.specs.Prelude.{AllPairs}
 use Rattle.std.specs.List.{sum_by}
 use Rattle.std.proofs.lemmas.List.Sums.{sum_by-cons}
 use Rattle.live.specs.declared.history.Exchange.{Exchange}
 use Rattle.live.specs.Exchanges.{entries_in}
-use Rattle.live.specs.Passes.{PassOf}
+use Rattle.book.specs.Passes.{PassOf as Book_pass}
+use Rattle.live.specs.Passes.{PassOf, book_pass}
 use Rattle.live.specs.declared.history.Told.{Told}
 use Rattle.live.specs.declared.history.Row.{Row}
 use Rattle.live.specs.declared.history.View.{View}
 use Rattle.live.specs.Told.{told_to}
 use Rattle.live.specs.Rules.{row, of_rows, joined, AreRows, times_in, weight_in, weight_told, IsAll}
 use Rattle.live.specs.Shared.{rows_of}
-use Rattle.std.proofs.lemmas.List.{reverse-reverse, length-reverse}
+use Rattle.std.proofs.lemmas.List.{reverse-reverse, reverse-append, length-reverse, map-append}
 use Rattle.std.proofs.lemmas.List.Elements.{All-weaker}
 use Rattle.atomic_table.specs.Seated.{TableId}
 use Rattle.machine.specs.declared.entry.Entry.{Entry}
@@ -44,6 +45,14 @@ rows-moved passes left pass rows is =
     pushed : (left : List PassOf) (pass : PassOf) → rows_of (left ++ pass ∷ []) ≡ rows_of left ++ row pass.caller.worker pass.exchanges ∷ []
     pushed [] pass = refl
     pushed (x ∷ left) pass = ap (λ (l : List Row). row x.caller.worker x.exchanges ∷ l) (pushed left pass)
+
+-- and itself behind those that were taken out before
+pub ended-moved : (passes left : List PassOf) (pass : PassOf) (old new : List Book_pass) (ended : Book_pass) → passes ≡ left ++ pass ∷ [] → ended ≡ book_pass pass → new ≡ old ++ ended ∷ [] → map book_pass left ++ reverse new ≡ map book_pass passes ++ reverse old
+ended-moved passes left pass old new ended is same now =
+    ap (λ (l : List Book_pass). map book_pass left ++ reverse l) now
+    ∙ (ap (λ (l : List Book_pass). map book_pass left ++ l) (reverse-append old (ended ∷ []))
+    ∙ (sym (append_assoc (map book_pass left) (ended ∷ []) (reverse old))
+    ∙ ap (λ (l : List Book_pass). l ++ reverse old) (ap (λ (p : Book_pass). map book_pass left ++ p ∷ []) same ∙ sym (ap (map book_pass) is ∙ map-append book_pass left (pass ∷ [])))))
 
 -- ---- passes whose rows are all
 

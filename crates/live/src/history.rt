@@ -1,7 +1,7 @@
 //! One history of what all workers were told, and seats that know of it. It exists in the proofs alone: at run time it is
 //! one word, which never changes.
 
-ghost use Rattle.std.specs.Prelude.{◌≡◌, ◌++◌, ◌+◌, ◌<◌, [], IfOk};
+ghost use Rattle.std.specs.Prelude.{◌≡◌, ◌++◌, ◌+◌, ◌<◌, ◌≤◌, [], IfOk, length};
 ghost use Rattle.live.specs.Told.{told_to, telling};
 ghost use Rattle.live.specs.Rules.{of_worker, of_roll, of_book, joined, exchanges_in, new_of, IsAll};
 
@@ -290,11 +290,14 @@ impl Ending {
     pub(crate) fn take(&mut self, front: Front)
         requires of_these { front.table_id ≡ self.old.table }
         requires plain { front.me.1 ≡ [] }
-        requires one { front.me.0.books ≡ 0 }
-        ensures { self.new ≡ record self.old { view = joined self.old.view front.me.0 } }
+        requires one { (front.me.0.books ≡ 0) × (front.me.0.rolls ≡ 0) }
+        requires roll { self.old.view.rolls ≡ 1 }
+        ensures taken { self.new ≡ record self.old { view = joined self.old.view front.me.0 } }
+        ensures few { length self.new.view.rows ≤ self.new.view.given }
     {
         let table = &self.table;
         table.shared.join_seat::<Rows>(&mut self.seat, front);
+        table.shared.load::<Learning>(&mut self.seat, 0);
     }
 
     /// What the history has of those that were handed in.

@@ -27,5 +27,5 @@ pub use history::Unnamed;
 pub use live::Live;
 pub use opened::Opened;
 pub use pass::Pass;
-pub use report::{Report, Unfinished};
+pub use report::{EndedPass, Report, Unfinished};
 pub use roll::Roll;

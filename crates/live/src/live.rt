@@ -10,6 +10,7 @@ ghost use Rattle.machine.specs.Transfers.{transfers_begun, transfers_ended};
 ghost use Rattle.book.specs.Passes.{count_of};
 ghost use Rattle.turns.specs.Tickets.{blocks_in};
 ghost use Rattle.live.specs.Exchanges.{kept_of};
+ghost use Rattle.live.specs.Passes.{book_pass};
 ghost use Rattle.live.specs.Matching.{Matches, has_share};
 ghost use Rattle.live.specs.Reports.{IsLegal, HasOut, IsMissing};
 ghost use Rattle.live.specs.OneRun.{IsOneRun, WereGiven};
@@ -40,7 +41,8 @@ pub struct Live<L: Opened, D: SharedDevice> {
     pub(crate) first: Mutex<First>,
     /// A transfer has ended, or the daemon is wanted.
     pub(crate) moved: Condvar,
-    pub(crate) device: D,
+    /// Its device. Whoever calls it through this goes behind the machine's back.
+    pub device: D,
     pub(crate) marks: Watermarks,
     pub(crate) placement: Placement,
     pub(crate) alloc: Global,
@@ -62,6 +64,7 @@ impl<L: Opened, D: SharedDevice> Live<L, D> {
         requires opened { opening_of config ≡ L.opening }
         requires fits { blocks_in L.opening ≤ D.extent device }
         ensures none { IfOk result (λ r. r.1 ≡ record { given = 0 }) }
+        ensures device { IfOk result (λ r. r.0.device ≡ device) }
         ensures err { IfErr result (λ e. (e.1 ≡ Refusal.Invalid) × (is_config config ≡ false) ⊎ (e.1 ≡ Refusal.NoMemory) × (is_config config ≡ true)) }
         ensures back { IfErr result (λ e. e.0 ≡ device) }
     {
@@ -80,7 +83,7 @@ impl<L: Opened, D: SharedDevice> Live<L, D> {
             Ok(first) => {
                 let (log, front) = unnamed.named();
                 let live = Live {
-                    shared: Mutex::new(SharedBook::new(book, log)),
+                    shared: Mutex::new(SharedBook::new(alloc, book, log)),
                     first: Mutex::new(first),
                     moved: Condvar::new(),
                     device,
@@ -134,7 +137,7 @@ impl<L: Opened, D: SharedDevice + Drop> Live<L, D> {
         self,
         passes: Vec<Pass<L>>,
         roll: Roll<L>,
-    ) -> Result<Report, (Live<L, D>, Vec<Pass<L>>, Unfinished, Roll<L>)>
+    ) -> Result<Report<D>, (Live<L, D>, Vec<Pass<L>>, Unfinished, Roll<L>)>
         ensures count { IfOk result (λ r. length passes.items ≡ roll.given) }
         ensures one_run { IfOk result (λ r. IsOneRun L.opening r.trace.entries passes.items) }
         ensures each { IfOk result (λ r. All (λ p. WereGiven L.opening (reverse r.trace.entries) p.caller.worker p.exchanges) passes.items) }
@@ -149,6 +152,8 @@ impl<L: Opened, D: SharedDevice + Drop> Live<L, D> {
         ensures first { IfOk result (λ r. IfErr r.audit (λ first. IsFirstWrong r.trace.entries first.entry)) }
         ensures whole { IfOk result (λ r. All (λ p. map kept_of p.exchanges ≡ p.kept) passes.items) }
         ensures all { IfOk result (λ r. All (λ p. has_share p.kept ≡ false) passes.items) }
+        ensures passes { IfOk result (λ r. r.passes.items ≡ map book_pass passes.items) }
+        ensures device { IfOk result (λ r. r.device ≡ self.device) }
         ensures missing { IfErr result (λ e. IsMissing passes.items e.2) }
         ensures given { IfErr result (λ e. e.2 ≡ Unfinished.PassMissing roll.given) }
         ensures back { IfErr result (λ e. e.1.items ≡ passes.items) }
@@ -162,17 +167,19 @@ impl<L: Opened, D: SharedDevice + Drop> Live<L, D> {
             shared,
             first: _,
             moved: _,
-            device: _,
+            device,
             marks: _,
             placement: _,
             alloc: _,
         } = self;
-        let trace = shared.into_inner().settle(passes, roll);
+        let (trace, passes) = shared.into_inner().settle(passes, roll);
         let audit = audit(&trace);
         Ok(Report {
             trace,
             replies_match: true,
             audit,
+            passes,
+            device,
         })
     }
 

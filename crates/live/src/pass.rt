@@ -20,6 +20,7 @@ ghost use Rattle.live.specs.Shares.{strange, Carries};
 use crate::hand::Hand;
 use crate::history::{Asked, Front, Log, Paths};
 use crate::opened::Opened;
+use crate::report::EndedPass;
 use book::{Book, Event, Kept, Reply};
 use machine::command::{Actor, Command};
 use machine::refusal::Refusal;
@@ -227,18 +228,19 @@ impl<L: Opened> Pass<L> {
         Ok(judged)
     }
 
-    /// Its seat of the history.
-    pub(crate) fn into_front(self) -> Front
-        ensures of_these { result.table_id ≡ L.table }
-        ensures front { result.me ≡ (of_worker self.caller.worker self.exchanges, []) }
+    /// The pass as it is kept after the end, and its seat of the history.
+    pub(crate) fn end(self) -> (EndedPass, Front)
+        ensures pass { result.0 ≡ book_pass self }
+        ensures of_these { result.1.table_id ≡ L.table }
+        ensures front { result.1.me ≡ (of_worker self.caller.worker self.exchanges, []) }
     {
         let Pass {
-            pass: _,
+            pass,
             front,
             seen: _,
             hand: _,
             of: _,
         } = self;
-        front
+        (EndedPass::new(pass), front)
     }
 }

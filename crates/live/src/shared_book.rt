@@ -1,6 +1,6 @@
 //! What lies under the lock.
 
-ghost use Rattle.std.specs.Prelude.{◌≡◌, ◌⊎◌, ℕ, ◌+◌, ◌<◌, ◌≤◌, [], false, length, reverse, IfOk, IfErr, OnOk, OnErr, All};
+ghost use Rattle.std.specs.Prelude.{◌≡◌, ◌⊎◌, ℕ, ◌+◌, ◌<◌, ◌≤◌, [], false, length, map, reverse, vec_capacity, IfOk, IfErr, OnOk, OnErr, All};
 ghost use Rattle.std.specs.List.{sum_by};
 ghost use Rattle.machine.specs.Call.{first_past};
 ghost use Rattle.machine.specs.History.{Honest, Right, Numbered, at_first};
@@ -9,7 +9,7 @@ ghost use Rattle.book.specs.Events.{event_of, reply_of};
 ghost use Rattle.book.specs.Replies.{Replies};
 ghost use Rattle.turns.specs.Tickets.{blocks_in, is_ending, OwnEvent, OwnReply, IsHanded, holds};
 ghost use Rattle.live.specs.Exchanges.{entries_in};
-ghost use Rattle.live.specs.Passes.{answering};
+ghost use Rattle.live.specs.Passes.{book_pass, answering};
 ghost use Rattle.live.specs.Matching.{Matches};
 ghost use Rattle.live.specs.Shares.{Carries};
 ghost use Rattle.live.specs.Runs.{Looked};
@@ -22,6 +22,7 @@ ghost use Rattle.live.specs.Hands.{HasEvent};
 use crate::history::{Ending, Log};
 use crate::opened::Opened;
 use crate::pass::Pass;
+use crate::report::EndedPass;
 use crate::roll::Roll;
 use book::{Book, Event, Reply};
 use machine::command::{Actor, Command};
@@ -37,6 +38,8 @@ use turns::turn::Stage;
 pub struct SharedBook<L: Opened> {
     book: Book,
     log: Log,
+    /// Room for the passes at the end.
+    ended_passes: Vec<EndedPass>,
     /// How many transfers have ended.
     ended: u64,
     is_stopped: bool,
@@ -46,6 +49,7 @@ pub struct SharedBook<L: Opened> {
 }
 
 impl<L: Opened> Model for SharedBook<L> {
+    ghost use Rattle.std.specs.Prelude.{◌≡◌, ◌≤◌, [], vec_capacity};
     ghost use Rattle.machine.specs.Call.{Past};
     ghost use Rattle.live.specs.Shared.{IsShared};
 
@@ -53,8 +57,11 @@ impl<L: Opened> Model for SharedBook<L> {
 
     ghost view = { λ s. s.book };
 
-    ghost invariant = { λ s. IsShared L.table L.opening s.book s.log };
+    ghost invariant = { λ s. IsShared L.table L.opening s.book s.log × (s.ended_passes.items ≡ []) × (s.book.passes ≤ vec_capacity s.ended_passes) };
 }
+
+/// A book gives out so many passes.
+const MOST_PASSES: u32 = 131_072;
 
 /// Whether it ends a transfer, for which others may wait.
 fn is_end(event: &Event) -> bool
@@ -76,13 +83,14 @@ fn is_strange(reply: &Reply) -> bool {
 }
 
 impl<L: Opened> SharedBook<L> {
-    pub fn new(book: Book, log: Log) -> SharedBook<L>
+    pub fn new(alloc: Global, book: Book, log: Log) -> SharedBook<L>
         requires fresh { book ≡ first_past L.opening }
         requires log { (log.table ≡ L.table) × (log.given ≡ 0) × (log.log ≡ []) }
     {
         SharedBook {
             book,
             log,
+            ended_passes: Vec::new(alloc),
             ended: 0,
             is_stopped: false,
             is_armed: true,
@@ -100,6 +108,14 @@ impl<L: Opened> SharedBook<L> {
         ensures err { IfErr result (λ cause. (cause ≡ Refusal.NoSpace) × (131072 ≤ roll.old.given) ⊎ (cause ≡ Refusal.NoMemory) × (roll.old.given < 131072)) }
     {
         roll.agree(&mut self.log);
+        let given = self.book.passes();
+        if self.ended_passes.reserve(given as usize + 1).is_err() {
+            return Err(if given < MOST_PASSES {
+                Refusal::NoMemory
+            } else {
+                Refusal::NoSpace
+            });
+        }
         let pass = self.book.pass()?;
         let front = roll.give_out(&mut self.log, self.book.passes());
         Ok(Pass::new(pass, front))
@@ -199,6 +215,7 @@ impl<L: Opened> SharedBook<L> {
         let SharedBook {
             book,
             log: _,
+            ended_passes: _,
             ended: _,
             is_stopped: _,
             is_armed: _,
@@ -207,22 +224,24 @@ impl<L: Opened> SharedBook<L> {
         book.close()
     }
 
-    /// Ends the book with all its passes.
-    pub fn settle(self, passes: Vec<Pass<L>>, roll: Roll<L>) -> Trace
+    /// Ends the book with all its passes: its trace, and the passes.
+    pub fn settle(self, passes: Vec<Pass<L>>, roll: Roll<L>) -> (Trace, Vec<EndedPass>)
         requires { roll.given ≤ length passes.items }
         ensures count { length passes.items ≡ roll.given }
-        ensures one_run { IsOneRun L.opening result.entries passes.items }
-        ensures each { All (λ p. WereGiven L.opening (reverse result.entries) p.caller.worker p.exchanges) passes.items }
-        ensures legal { IsLegal L.opening (reverse result.entries) }
-        ensures right { (files : ℕ → ℕ → ℕ → ℕ) → Honest (at_first files) (reverse result.entries) → Right (at_first files) (reverse result.entries) }
-        ensures numbered { Numbered (reverse result.entries) }
-        ensures transfers { transfers_ended (reverse result.entries) ≤ transfers_begun (reverse result.entries) }
-        ensures entries { length result.entries ≡ sum_by (λ p. entries_in p.exchanges) passes.items }
-        ensures matches { Matches result.entries passes.items }
+        ensures one_run { IsOneRun L.opening result.0.entries passes.items }
+        ensures each { All (λ p. WereGiven L.opening (reverse result.0.entries) p.caller.worker p.exchanges) passes.items }
+        ensures legal { IsLegal L.opening (reverse result.0.entries) }
+        ensures right { (files : ℕ → ℕ → ℕ → ℕ) → Honest (at_first files) (reverse result.0.entries) → Right (at_first files) (reverse result.0.entries) }
+        ensures numbered { Numbered (reverse result.0.entries) }
+        ensures transfers { transfers_ended (reverse result.0.entries) ≤ transfers_begun (reverse result.0.entries) }
+        ensures entries { length result.0.entries ≡ sum_by (λ p. entries_in p.exchanges) passes.items }
+        ensures matches { Matches result.0.entries passes.items }
+        ensures passes { result.1.items ≡ map book_pass passes.items }
     {
         let SharedBook {
             book,
             log,
+            ended_passes,
             ended: _,
             is_stopped: _,
             is_armed: _,
@@ -230,23 +249,35 @@ impl<L: Opened> SharedBook<L> {
         } = self;
         let count = roll.given();
         let ending = log.end(roll.into_front(), count);
-        bring_together(ending, passes);
+        let ended = bring_together(ending, passes, ended_passes);
         book.history_is_right();
-        book.close()
+        (book.close(), ended)
     }
 }
 
-/// All seats are brought together: they have all that the history has.
-fn bring_together<L: Opened>(ending: Ending, passes: Vec<Pass<L>>)
+/// All seats are brought together: they have all that the history has. The passes come back, in the room for them.
+fn bring_together<L: Opened>(
+    ending: Ending,
+    passes: Vec<Pass<L>>,
+    ended: Vec<EndedPass>,
+) -> Vec<EndedPass>
     requires of_these { ending.table ≡ L.table }
     requires roll { ending.view.rolls ≡ 1 }
     requires empty { ending.view.rows ≡ [] }
-    ensures { IsAll (record ending.view { rows = rows_of passes.items }) }
+    requires none { ended.items ≡ [] }
+    requires room { ending.view.given ≤ vec_capacity ended }
+    ensures all { IsAll (record ending.view { rows = rows_of passes.items }) }
+    ensures passes { result.items ≡ map book_pass passes.items }
 {
     let mut ending = ending;
     let mut passes = passes;
+    let mut ended = ended;
     while let Some(pass) = passes.pop() {
-        ending.take(pass.into_front());
+        let (pass, front) = pass.end();
+        ending.take(front);
+        ended.push_reserved(pass);
     }
     ending.close();
+    ended.as_mut_slice().reverse();
+    ended
 }

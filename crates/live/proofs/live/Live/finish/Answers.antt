@@ -22,7 +22,7 @@ returns-clause-at_rest g c =
     let all = subst (λ (ps : List PassOf). All (λ (p : PassOf). has_share p.kept ≡ false) ps) c.as_slice.ensures.value c.if-has_out.ensures.out in
     let whole = subst (λ (ps : List PassOf). All IsWhole ps) c.as_slice.ensures.value (c.if-has_out.ensures.whole refl) in
     let entries = c.settle-trace.ensures.entries ∙ sum-kept c.args.passes.items whole in
-    λ _. at_rest c.settle-trace.result.entries c.args.passes.items whole c.settle-trace.ensures.matches entries all c.settle-trace.ensures.transfers
+    λ _. at_rest c.settle-trace.result.0.entries c.args.passes.items whole c.settle-trace.ensures.matches entries all c.settle-trace.ensures.transfers
 
 pub returns-then-len-given-clause-missing : goal.returns-then-len-given-clause-missing
 returns-then-len-given-clause-missing g c =

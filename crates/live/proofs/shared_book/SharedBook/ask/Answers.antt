@@ -1,4 +1,4 @@
-use Rattle.std.proofs.Common.{rules, ◌≡◌, ◌∙◌, subst}
+use Rattle.std.proofs.Common.{rules, ◌≡◌, ◌∙◌, ◌≤◌, ℕ, vec_capacity, sym, subst}
 use Rattle.machine.specs.State.{Opening}
 use Rattle.machine.specs.Legal.{Legal}
 use Rattle.book.specs.Events.{event_of, reply_of}
@@ -13,7 +13,7 @@ returns-clause-own g c =
     let past = c.ask-reply.new.book in
     let worker = c.args.pass.now.caller.worker in
     let told = c.ask-reply.ensures in
-    let shared = c.self.invariant in
+    let shared = c.self.invariant.0 in
     let opened : past.state.opening ≡ g.L.Opened.opening =
     opened-so g.L.Opened.table g.L.Opened.opening c.self.inside.book c.self.inside.log shared (book_pass c.args.pass.now) c.args.pass.now.exchanges told.whole told.known told.given (event_of c.args.event) (reply_of c.ask-reply.result) past told.called ∙ shared.opened in
     let Own : Opening → Type 0 = λ o. OwnReply worker (blocks_in o) c.ask-reply.result in
@@ -23,6 +23,9 @@ pub invariant_of-self : goal.invariant_of-self
 invariant_of-self g c =
     let told = c.ask-reply.ensures in
     let past = c.self.inside.book in
-    let legal = subst (λ (o : Opening). Legal o past.history past.state) c.self.invariant.opened c.history_is_right.ensures.legal in
-    shared-call g.L.Opened.table g.L.Opened.opening past c.self.inside.log c.self.invariant (book_pass c.args.pass.now) c.args.pass.now.exchanges told.whole told.known told.given (event_of c.args.event) c.ask-reply.result c.ask-reply.new.book c.ask-reply.new.log
-    (search rules) told.called told.passes told.log legal told.gives
+    let legal = subst (λ (o : Opening). Legal o past.history past.state) c.self.invariant.0.opened c.history_is_right.ensures.legal in (
+      shared-call g.L.Opened.table g.L.Opened.opening past c.self.inside.log c.self.invariant.0 (book_pass c.args.pass.now) c.args.pass.now.exchanges told.whole told.known told.given (event_of c.args.event) c.ask-reply.result c.ask-reply.new.book c.ask-reply.new.log
+          (search rules) told.called told.passes told.log legal told.gives,
+      c.self.invariant.1,
+      subst (λ (n : ℕ). n ≤ vec_capacity c.self.inside.ended_passes) (sym told.passes) c.self.invariant.2,
+    )

@@ -12,38 +12,38 @@ pub returns-clause-entries : goal.returns-clause-entries
 returns-clause-entries g c =
     let view = c.end-ending.result.view in
     let is = c.end-ending.ensures in
-    let all = c.bring_together.ensures in
+    let all = c.bring_together-ended.ensures.all in
     let rolled : view.rolled ≡ 0 + c.given-count.result = ap (λ (e : EndingOf). e.view.rolled) is in
     let most : view.given ≤ length c.args.passes.items = omega (arith, all.rolled, rolled, c.given-count.ensures, c.requires) in
-    run-counted g.L.Opened.table g.L.Opened.opening c.self.inside.book c.self.inside.log c.self.invariant c.close.result.entries (sym c.close.ensures) c.args.passes.items view
+    run-counted g.L.Opened.table g.L.Opened.opening c.self.inside.book c.self.inside.log c.self.invariant.0 c.close.result.entries (sym c.close.ensures) c.args.passes.items view
     (ap (λ (e : EndingOf). e.view.log) is) (ap (λ (e : EndingOf). e.view.given) is) all most
 
 pub returns-clause-one_run : goal.returns-clause-one_run
 returns-clause-one_run g c =
     let view = c.end-ending.result.view in
     let is = c.end-ending.ensures in
-    let all = c.bring_together.ensures in
+    let all = c.bring_together-ended.ensures.all in
     let rolled : view.rolled ≡ 0 + c.given-count.result = ap (λ (e : EndingOf). e.view.rolled) is in
     let most : view.given ≤ length c.args.passes.items = omega (arith, all.rolled, rolled, c.given-count.ensures, c.requires) in
-    one-run g.L.Opened.table g.L.Opened.opening c.self.inside.book c.self.inside.log c.self.invariant c.close.result.entries (sym c.close.ensures) c.args.passes.items view
+    one-run g.L.Opened.table g.L.Opened.opening c.self.inside.book c.self.inside.log c.self.invariant.0 c.close.result.entries (sym c.close.ensures) c.args.passes.items view
     (ap (λ (e : EndingOf). e.view.log) is) (ap (λ (e : EndingOf). e.view.given) is) all most
 
 pub returns-clause-matches : goal.returns-clause-matches
 returns-clause-matches g c =
     let view = c.end-ending.result.view in
     let is = c.end-ending.ensures in
-    let all = c.bring_together.ensures in
+    let all = c.bring_together-ended.ensures.all in
     let rolled : view.rolled ≡ 0 + c.given-count.result = ap (λ (e : EndingOf). e.view.rolled) is in
     let most : view.given ≤ length c.args.passes.items = omega (arith, all.rolled, rolled, c.given-count.ensures, c.requires) in
-    run-matches g.L.Opened.table g.L.Opened.opening c.self.inside.book c.self.inside.log c.self.invariant c.close.result.entries (sym c.close.ensures) c.args.passes.items view
+    run-matches g.L.Opened.table g.L.Opened.opening c.self.inside.book c.self.inside.log c.self.invariant.0 c.close.result.entries (sym c.close.ensures) c.args.passes.items view
     (ap (λ (e : EndingOf). e.view.log) is) (ap (λ (e : EndingOf). e.view.given) is) all most
 
 pub returns-clause-each : goal.returns-clause-each
 returns-clause-each g c =
     let view = c.end-ending.result.view in
     let is = c.end-ending.ensures in
-    let all = c.bring_together.ensures in
+    let all = c.bring_together-ended.ensures.all in
     let rolled : view.rolled ≡ 0 + c.given-count.result = ap (λ (e : EndingOf). e.view.rolled) is in
     let most : view.given ≤ length c.args.passes.items = omega (arith, all.rolled, rolled, c.given-count.ensures, c.requires) in
-    run-each g.L.Opened.table g.L.Opened.opening c.self.inside.book c.self.inside.log c.self.invariant c.close.result.entries (sym c.close.ensures) c.args.passes.items view
+    run-each g.L.Opened.table g.L.Opened.opening c.self.inside.book c.self.inside.log c.self.invariant.0 c.close.result.entries (sym c.close.ensures) c.args.passes.items view
     (ap (λ (e : EndingOf). e.view.log) is) (ap (λ (e : EndingOf). e.view.given) is) all most
