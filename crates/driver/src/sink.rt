@@ -39,7 +39,7 @@ pub trait Sink {
         ensures quiet { took self.old self.new [] };
 
     /// Sees the book, and why room is needed, before a turn of that step asks for relief, which may kill a task. No
-    /// clause says that it does.
+    /// clause says that this happens.
     fn see_relief(&mut self, step: usize, book: &Book, cause: Cause)
         ensures unseen { saw self.old self.new [] }
         ensures quiet { took self.old self.new [] };
