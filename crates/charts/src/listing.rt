@@ -158,7 +158,7 @@ fn is_last(lines: &[usize], step: usize) -> bool
     }
 }
 
-/// Adds the lines after each step of the row, the first of which is `step`. The result is the step after the last of
+/// Adds the table's lines for the row's steps, the first of which is `step`. The result is the step after the last of
 /// them.
 fn add_row(
     alloc: Global,

@@ -30,7 +30,7 @@ impl Scale {
 /// The most marks along a line.
 const MOST_MARKS: u64 = 8;
 
-/// The distance of round numbers of which at most eight are below this one; for numbers of lines.
+/// The distance between round numbers of lines. At most eight of them are below this one.
 fn decimal_step(greatest: u64) -> u64 {
     let mut step = 1u64;
     for turn in 0..60u32 {

@@ -151,7 +151,7 @@ impl Seats {
         self.exchange(place, actor, Activity::Rests)
     }
 
-    /// Sets what the actor at this place is doing. It has no command under way.
+    /// Sets what the actor at this place is doing. It had no command under way.
     pub fn put(&mut self, place: usize, actor: Actor, activity: Activity)
         requires place { SitsAt actor place self.old }
         requires free { is_under_way (activity_of actor self.old) ≡ false }

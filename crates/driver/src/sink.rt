@@ -17,13 +17,14 @@ pub struct Closed;
 /// Takes the answers of a run, each as it comes: a list keeps them, a writer prints them. It may look at the book
 /// between two steps, and before a relief, which may kill a task.
 pub trait Sink {
-    /// Between the two states it took these answers, in this order, and no other.
+    /// From the first state to the second, it took these answers, in this order, and no other.
     ghost took: { Self → Self → List Told_by → Type 0 };
 
-    /// Between the two states it took no answer, though it may have begun to take the first of these.
+    /// From the first state to the second, it took no answer, though it may have begun to take the first of these.
     ghost failed: { Self → Self → List Told_by → Type 0 };
 
-    /// Between the two states [`Sink::look`] showed it books with these pasts, in this order, and no other.
+    /// From the first state to the second, [`Sink::look`] showed it books with these pasts, in this order, and no
+    /// other.
     ghost saw: { Self → Self → List Past → Type 0 };
 
     /// Takes an answer to the step at this place in the list of steps; the first is at 0. `Closed` if it could not take
@@ -39,7 +40,7 @@ pub trait Sink {
         ensures quiet { took self.old self.new [] };
 
     /// Sees the book, and why room is needed, before a turn of that step asks for relief, which may kill a task. No
-    /// clause says that it does.
+    /// clause says that this happens.
     fn see_relief(&mut self, step: usize, book: &Book, cause: Cause)
         ensures unseen { saw self.old self.new [] }
         ensures quiet { took self.old self.new [] };

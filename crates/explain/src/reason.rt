@@ -6,10 +6,10 @@ use machine::limit::{LAST_TASK, MOST_TASKS, TASK_PAGES};
 use std::fmt;
 use std::fmt::{Formatter, Write};
 
-/// Groups at a time, the root counted, at most.
+/// The most groups at one time, with the root.
 const MOST_GROUPS: u32 = 256;
 
-/// Levels below the root, at most.
+/// The most levels below the root.
 const MOST_LEVELS: usize = 16;
 
 /// The last offset of a page.

@@ -16,7 +16,7 @@ use machine::limit::{LAST_TASK, MOST_FILES, TASK_PAGES};
 use machine::refusal::Refusal;
 use text_forms::number::is_digits;
 
-/// Levels below the root, at most.
+/// The most levels below the root.
 const MOST_LEVELS: usize = 16;
 
 /// A command, and its place in the script.

@@ -61,8 +61,8 @@ pub fn current_counts_pages()
     ensures { CurrentCountsPages }
 {}
 
-/// For each of the six keys, `memory.events` shows how often it was counted at the group or below it, and
-/// `memory.events.local` how often at the group itself. (Unfolds `shown_of`.)
+/// For each of the six keys, `memory.events` shows how often it was counted at the group or below it.
+/// `memory.events.local` shows how often it was counted at the group itself. (Unfolds `shown_of`.)
 pub fn event_files_show_what_was_counted()
     ensures { EventsAreThoseCounted }
 {}
@@ -74,9 +74,9 @@ pub fn counts_are_of_the_history()
     ensures { CountsAreOfTheHistory }
 {}
 
-/// An access that raises the number of pages charged to a group leaves it at most at the group's max. This
-/// holds for every group, so for each above the task's. A max that was lowered below the count may stay
-/// exceeded, but admits no charge.
+/// An access that raises the number of pages charged to a group leaves it at most at the group's max. This holds for
+/// every group, and therefore for each above the task's. A max that was lowered below the count may stay exceeded, but
+/// admits no charge.
 pub fn charges_stay_within_max()
     ensures { ChargesStayWithinMax }
 {}
@@ -174,13 +174,13 @@ pub fn held_pages_are_listed()
     ensures { HeldPagesAreListed }
 {}
 
-/// After any run each group has its own lists: of each type two to four generations by rising number, and
-/// each page in one of these. There is a mark for each number that a page may have.
+/// After any run each group has its own lists. For each type these are two to four generations by rising number, and
+/// each page is in one of them. There is a mark for each number that a page may have.
 pub fn generations_hold()
     ensures { GenerationsHold }
 {}
 
-/// After any run there is a cursor for each group, so each target's can move.
+/// After any run there is a cursor for each group, so the cursor of each target can move.
 pub fn groups_have_cursors()
     ensures { GroupsHaveCursors }
 {}

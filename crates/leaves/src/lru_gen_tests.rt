@@ -119,9 +119,9 @@ enum Call {
     TakeOver,
 }
 
-// After each of this number of calls the pages are the same as in plain vectors after the same calls. There is a vector
-// for each generation that ever was. The pages are read by `first` and `after`, and along the stored links of each list
-// both ways.
+// After each call the pages are the same as in plain vectors after the same calls. There is a vector for each
+// generation that ever was. The pages are read by `first` and `after`, and along the stored links of each list both
+// ways.
 #[test]
 fn mixed_calls_match_plain_vectors(rt: HostRuntime) -> Result<(), Fail> {
     let mut gens = Gens::open(rt.alloc(), PAGES)?;

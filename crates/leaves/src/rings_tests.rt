@@ -36,7 +36,7 @@ const LISTS: u32 = 4;
 
 const NUMBERS: u32 = 32;
 
-// After each of this number of calls the lists are as vectors are after the same calls.
+// After each call the lists are as vectors are after the same calls.
 #[test]
 fn mixed_calls_match_plain_vectors(rt: HostRuntime) -> Result<(), Fail> {
     let mut rings = Rings::open(rt.alloc(), NUMBERS)?;

@@ -88,8 +88,8 @@ fn run<R: Threads + Wait + Sync + AllocGlobal, I: Read, O: Write, E: Write>(
     }
 }
 
-/// Progress is shown only on a terminal. Answers are written in blocks, all of them before any message. They are
-/// written as they come to a terminal, or if progress is asked for.
+/// Progress is shown only on a terminal. Answers are written in blocks, all of them before any message. On a terminal,
+/// or if progress is asked for, each answer is written as it comes.
 fn serve<R: Files + AllocGlobal + Threads + Wait + Sync, O: Write, E: Write>(
     rt: &R,
     mut request: Request<'_>,
@@ -151,8 +151,8 @@ fn show<O: Write, E: Write>(out: &mut O, err: &mut E, text: &clap::Error) -> u8
     FAILED
 }
 
-/// The status: 0 for a script that was run, for help and for the version; 1 for a script that wasn't run; 2 for words
-/// that ask for nothing.
+/// The status: 0 for a script that was run, for help and for the version; 1 for a script that wasn't run; 2 for a
+/// command line that asks for nothing.
 fn start<R: Env + Files + AllocGlobal + Threads + Wait + Sync, O: Write, E: Write>(
     rt: &R,
     terminals: Terminals,

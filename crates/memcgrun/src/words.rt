@@ -42,8 +42,8 @@ pub struct Request<'a> {
 /// Why there is no request.
 #[derive(Drop)]
 pub enum Refused {
-    /// The text for the user: what was asked for, or what is wrong, with a usage line. The text itself says which of
-    /// the two it is.
+    /// The text for the user: the answer to a request for help or the version, or what is wrong, with a usage line. It
+    /// knows itself which of the two it is.
     Text(Error),
     Memory,
 }

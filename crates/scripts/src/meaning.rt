@@ -172,8 +172,8 @@ fn file_of(alloc: Global, name: &Token<'_>, pages: &Token<'_>) -> Result<File, A
     })
 }
 
-/// The item that the actor does this, as the line is written. If the line only begins a command, `control` begins it in
-/// place of the shell.
+/// The item for this command of the actor, whole or only begun as the line is written. If it is only begun, `control`
+/// begins it in place of the shell.
 fn done_by(manner: Manner, actor: Actor, command: Command) -> Item
     ensures { result ≡ as_it_stands manner (Does actor command) }
 {

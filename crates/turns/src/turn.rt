@@ -51,7 +51,7 @@ pub enum Resume {
     Try(Access),
     /// Room is made for the access.
     MakeRoom(Access, Cause),
-    /// Room is made under the group, whose max was set.
+    /// Room is made under the max that was set for the group.
     Lower(GroupId),
     /// `left` more pages are evicted from the group or from below it.
     Reclaim { group: GroupId, left: u64 },
@@ -72,7 +72,7 @@ pub enum Stage {
         group: GroupId,
         max: Amount,
     },
-    /// Room is made under the group, whose max was set.
+    /// Room is made under the max that was set for the group.
     Lower(GroupId),
     /// The group's min, or low, is set.
     SetGuard {
@@ -205,7 +205,7 @@ impl Kill {
 #[must_use]
 pub enum Transition {
     Goes(Stage),
-    /// A task was killed, or all tasks of a group, and the command continues.
+    /// One task was killed, or all tasks of a group were. The command continues.
     Kills(Kill, Resume),
     /// A page in transfer is in the way. A schedule answers `busy`. A worker waits until a transfer has ended, and
     /// continues here.
