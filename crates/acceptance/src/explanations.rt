@@ -22,8 +22,7 @@ fn a_byte_that_is_no_text_and_a_mark_of_the_encoding_are_named(rt: HostRuntime) 
         b"\xef\xbb\xbfgroup /a\n",
         "case:1: unknown word\nword 1, \"\\u{feff}group\", begins with a byte order mark, which no script may have\n",
     );
-    let utf16 =
-        "case:1: not text\nthe script is UTF-16; save it as UTF-8\n";
+    let utf16 = "case:1: not text\nthe script is UTF-16; save it as UTF-8\n";
     explains(
         &rt,
         "a mark of UTF-16, low byte first",
