@@ -791,6 +791,34 @@ def write_counts(option=None):
     print(f"{words} words")
 
 
+# The crates whose strings a user reads.
+TELLING = ("charts", "expectations", "explain", "machine", "memcgrun", "memcgrun_c", "printer", "scenarios", "scripts", "subcommands")
+
+
+def messages():
+    """Each string of the program that a user may read, of three words or more, with its file."""
+    for crate in TELLING:
+        for path in sorted(glob.glob(f"crates/{crate}/src/**/*.rt", recursive=True)):
+            with open(path, encoding="utf-8") as file:
+                code = re.sub(r"^\s*(//|ghost ).*$", "", file.read().split("#[cfg(test)]\nmod tests {")[0], flags=re.M)
+                # A quote as a character begins no string; nor does a string go over a line.
+                code = code.replace("'\"'", "")
+            for text in re.findall(r'"((?:[^"\\\n]|\\.)*)"', code):
+                if len(text.split()) > 2:
+                    yield path, text
+
+
+def wrong_messages():
+    """The strings of the program that have a phrase of the list, or are too long."""
+    listed = phrases()
+    found = []
+    for path, text in messages():
+        found += [f"{path} says '{text}': '{phrase}' (write: {instead})" for phrase, instead in odd_phrases(text, listed)]
+        if is_long(text):
+            found.append(f"{path} says '{text}', which has {len(text.split())} words")
+    return found
+
+
 def wrong_commands():
     """What pages call by the name of this program, and it does not know."""
     found = []
@@ -843,7 +871,7 @@ def check():
     with open("docs/crates.svg", encoding="utf-8") as file:
         if file.read() != picture():
             wrong.append("docs/crates.svg is not what docs/tool.py crates prints")
-    wrong += wrong_commands() + wrong_places()
+    wrong += wrong_commands() + wrong_places() + wrong_messages()
     wrong += risen()
     for line in wrong:
         print(line)
