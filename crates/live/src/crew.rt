@@ -17,7 +17,7 @@ use std::sync::Wait;
 use std::thread;
 use std::thread::Threads;
 
-/// A worker with what it is to do, and with what it answered to that.
+/// A worker, with its commands and its answers to them.
 #[derive(Drop)]
 pub struct Worker<L: Opened> {
     actor: Actor,
@@ -64,7 +64,7 @@ impl<L: Opened> Worker<L> {
         }
     }
 
-    /// Its pass, and the rest is let go.
+    /// Its pass. The rest is dropped.
     pub fn into_pass(self) -> Pass<L>
         ensures { result ≡ self.pass }
     {
@@ -79,14 +79,14 @@ impl<L: Opened> Worker<L> {
 }
 
 impl<L: Opened> Worker<L> {
-    /// Does what it is to do.
+    /// Runs its commands.
     pub fn work<D: SharedDevice, R: Wait>(&mut self, rt: &R, live: &Live<L, D>)
         ensures { HasWorked L.opening.watermarks self.old self.new }
     {
         self.answers = live.work(rt, &mut self.pass, self.actor, &self.commands);
     }
 
-    /// Answers a command at once, before what it is to do.
+    /// Answers a command at once, before the worker's own commands.
     pub fn answer<D: SharedDevice, R: Wait>(
         &mut self,
         rt: &R,
@@ -101,7 +101,7 @@ impl<L: Opened> Worker<L> {
     }
 }
 
-/// Each worker does what it is to do, in a thread of its own where one can be made.
+/// Each worker runs its commands, in a thread of its own if one can be made.
 fn each_works<L: Opened + Send + Sync, D: SharedDevice + Sync, R: Threads + Wait + Sync>(
     rt: &R,
     live: &Live<L, D>,
@@ -116,11 +116,10 @@ fn each_works<L: Opened + Send + Sync, D: SharedDevice + Sync, R: Threads + Wait
     thread::for_each_mut(rt, workers, count, &|_at, worker| worker.work(rt, live));
 }
 
-/// Each worker does what it is to do, and the daemon runs beside them until all have ended, and once more then.
-/// All are handed back.
+/// Each worker runs its commands. The daemon runs at the same time until all workers have ended, and then once
+/// more. Returns all of them.
 ///
-/// Each has a thread of its own. Where no more threads can be made, workers that are left work one after the
-/// other.
+/// Each has a thread of its own. If no more threads can be made, the remaining workers run one after the other.
 pub fn work_together<L: Opened + Send + Sync, D: SharedDevice + Sync, R: Threads + Wait + Sync>(
     rt: &R,
     live: &Live<L, D>,

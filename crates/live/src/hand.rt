@@ -1,4 +1,4 @@
-//! Seats of the marks of frames, handed out from under a lock of their own.
+//! Seats of the marks of frames. They are handed out under a lock of their own.
 
 ghost use Rattle.std.specs.Prelude.{◌≡◌};
 ghost use Rattle.std.specs.Arc.{arc_value};
@@ -7,7 +7,7 @@ use marks::{Marks, Seat};
 use std::alloc::{AllocError, Global};
 use std::sync::Arc;
 
-/// The first seat, with the marks that it is of.
+/// The first seat, with its marks.
 #[derive(Drop)]
 pub(crate) struct First {
     frames: u32,
@@ -17,7 +17,7 @@ pub(crate) struct First {
     ghost sized: { (arc_value marks).frames ≡ frames },
 }
 
-/// A worker's seat, with the marks that it is of. It sets and takes marks with no lock.
+/// A worker's seat, with its marks. It sets and takes marks without a lock.
 #[derive(Drop)]
 pub(crate) struct Hand {
     frames: u32,
@@ -28,7 +28,7 @@ pub(crate) struct Hand {
 }
 
 impl First {
-    /// The marks of so many frames, none of them set.
+    /// Opens the marks of this number of frames, all clear.
     pub(crate) fn open(alloc: Global, frames: u32) -> Result<First, AllocError> {
         let (marks, seat) = Marks::open(alloc, frames)?;
         let marks = Arc::new(alloc, marks)?;
@@ -39,8 +39,8 @@ impl First {
         })
     }
 
-    /// A seat for one more. None where all parts of the first seat are given out: whoever gets none sets no
-    /// marks.
+    /// A seat for another worker. `None` if all parts of the first seat are given out. A worker without a seat sets
+    /// no marks.
     pub(crate) fn hand(&mut self) -> Option<Hand> {
         if self.seat.parts() < 2 {
             return None;
@@ -61,14 +61,14 @@ impl Hand {
         self.frames.div_ceil(64)
     }
 
-    /// The frame was hit: its mark is set.
+    /// Sets the mark of a frame that was hit.
     pub(crate) fn set(&mut self, frame: u32) {
         if frame < self.frames {
             self.marks.set(&mut self.seat, frame);
         }
     }
 
-    /// The marks of a word, which are clear from then on. A word that shows none is not touched.
+    /// Takes the marks of a word, and clears them. A word without marks is only read.
     pub(crate) fn harvest(&mut self, word: u32) -> u64 {
         if word as u64 * 64 >= self.frames as u64 || self.marks.load(word) == 0 {
             return 0;

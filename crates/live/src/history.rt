@@ -1,5 +1,5 @@
-//! One history of what all workers were told, and seats that know of it. It exists in the proofs alone: at run time it is
-//! one word, which never changes.
+//! One history of what all workers asked and were answered, and seats that know it. It exists only in the proofs:
+//! at run time it is one word, which never changes.
 
 ghost use Rattle.std.specs.Prelude.{◌≡◌, ◌++◌, ◌+◌, ◌<◌, ◌≤◌, [], IfOk, length};
 ghost use Rattle.live.specs.Told.{told_to, telling};
@@ -15,22 +15,22 @@ use std::alloc::{AllocError, Global};
 use std::collections::LinkedList;
 use std::marker::{Brand, Model, PhantomData};
 
-/// One thing that a worker asked the machine, and what it was told, with all bytes. No value of this type, nor of the three
-/// below, is made.
+/// One request of a worker to the machine, and its answer, with all bytes. The program makes no value of this type,
+/// nor of the three types below.
 pub enum Exchange {
-    /// An event and its answer, a refusal too.
+    /// An event and its answer, even a refusal.
     Call { event: Event, said: Reply },
-    /// A path that was looked for, and the group that it names, if there is one.
+    /// A path that was looked up, and the group that it names, if there is one.
     Find { path: Text, found: Option<GroupId> },
 }
 
-/// One thing that was told, and to whom.
+/// One exchange, and its worker.
 pub struct Told {
     pub worker: u32,
     pub what: Exchange,
 }
 
-/// What a worker was told, the oldest first.
+/// A worker's exchanges, the oldest first.
 pub struct Row {
     pub worker: u32,
     pub exchanges: LinkedList<Exchange>,
@@ -38,17 +38,17 @@ pub struct Row {
 
 /// What a seat knows.
 pub struct View {
-    /// 1 where it is the book's, which knows the whole history.
+    /// 1 if this is the book's seat, which knows the whole history.
     pub books: u32,
-    /// 1 where it is the roll's.
+    /// 1 if this is the roll's seat.
     pub rolls: u32,
-    /// How many passes were given out: the book's seat knows it.
+    /// How many passes were given out, if this is the book's seat.
     pub given: u32,
-    /// The same: the roll's seat knows it.
+    /// The same, if this is the roll's seat.
     pub rolled: u32,
     /// The history, the newest first.
     pub log: LinkedList<Told>,
-    /// What each of some workers was told.
+    /// The exchanges of some workers, a row for each.
     pub rows: LinkedList<Row>,
 }
 
@@ -63,8 +63,8 @@ impl TableRule<Pass, View, ()> for Fair {
     ghost first = { λ _. first_view };
 }
 
-/// Which events were asked with a pass since its seat was told of it, for the proof alone. A pass keeps an arrival without
-/// its bytes, so whoever has the event says what it was.
+/// For the proof alone: the events that were asked with a pass since its seat last noted them. A pass keeps an
+/// arrival without its bytes. The caller, who has the event, says what it was.
 pub(crate) trait Asked {
     ghost use Rattle.std.specs.Prelude.{List};
     ghost use Rattle.machine.specs.declared.event.Event.{Event};
@@ -72,7 +72,7 @@ pub(crate) trait Asked {
     ghost events: { List Event };
 }
 
-/// The proof of each call of a function for this type picks them.
+/// A caller with `Brand` picks them in the proof of the call.
 impl Asked for Brand {
     ghost use Rattle.std.specs.Prelude.{[]};
 
@@ -145,7 +145,7 @@ impl Split<View> for Rolls {
 /// A seat of the history.
 pub(crate) type Front = Seat<Pass, View>;
 
-/// The whole history, which lies under the lock.
+/// The whole history, which is kept under the lock.
 #[derive(Drop)]
 pub(crate) struct Log {
     table: Table<Pass, View, (), Fair, Global>,
@@ -165,7 +165,7 @@ impl Model for Log {
     ghost invariant = { λ l. (l.seat.table_id ≡ l.table.shared.table_id) × (l.table.shared.table_id.words ≡ 1) × (l.seat.me ≡ (of_book l.seat.me.0.given l.seat.me.0.log, [])) };
 }
 
-/// The whole history at its end, with all that the seats knew that were handed in.
+/// The whole history at its end, with all that the returned seats knew.
 #[derive(Drop)]
 pub(crate) struct Ending {
     table: Table<Pass, View, (), Fair, Global>,
@@ -183,7 +183,7 @@ impl Model for Ending {
     ghost invariant = { λ e. (e.seat.table_id ≡ e.table.shared.table_id) × (e.table.shared.table_id.words ≡ 1) × (e.seat.me.1 ≡ []) × (e.seat.me.0.books ≡ 1) };
 }
 
-/// A history in which nobody was told anything, which has no name yet.
+/// A history without exchanges, which has no name yet.
 #[derive(Drop)]
 pub struct Unnamed {
     log: Log,
@@ -222,7 +222,7 @@ impl Unnamed {
 }
 
 impl Log {
-    /// A pass more is given out, to the next worker, who was told nothing yet.
+    /// Gives out another pass, to the next worker, who has no exchanges yet.
     pub(crate) fn give_out(&mut self, roll: &mut Front, count: u32) -> Front
         requires of_these { roll.old.table_id ≡ self.old.table }
         requires roll { roll.old.me ≡ (of_roll count, []) }
@@ -255,7 +255,7 @@ impl Log {
         *roll = table.shared.split_seat::<Rolls>(&mut self.seat);
     }
 
-    /// A worker was told more: this is its pass now, and these events were asked with it.
+    /// Adds a worker's new exchanges. `pass` is its pass now, and `A` has the events that were asked with it.
     pub(crate) fn note<A: Asked>(&mut self, front: &mut Front, pass: &Pass)
         requires of_these { front.old.table_id ≡ self.old.table }
         requires of_worker { front.old.me ≡ (of_worker pass.now.caller.worker (exchanges_in front.old.me.0.rows), []) }
@@ -300,7 +300,7 @@ impl Ending {
         table.shared.load::<Learning>(&mut self.seat, 0);
     }
 
-    /// What the history has of those that were handed in.
+    /// What the history contains of the workers whose seats were handed in.
     pub(crate) fn close(self)
         requires roll { self.view.rolls ≡ 1 }
         ensures { IsAll self.view }

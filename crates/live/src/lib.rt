@@ -1,13 +1,14 @@
-//! Workers on threads: tasks, a shell and the daemon at once, on one book under one lock, over a device whose
-//! calls are made outside it.
+//! Runs workers on threads: tasks, a shell and the daemon work at the same time. They share one book under one
+//! lock, and a device that is called outside the lock.
 //!
-//! Each worker has a [`Pass`], which keeps what it asked and what came back. What a worker answers is tied to
-//! what its pass keeps by the same table of turns that a schedule goes by; at the end [`Live::finish`] hands out
-//! the trace of all that the workers did, with its audit. What each pass keeps, refusals and paths too, is what one run of
-//! the machine that led to this trace gave its worker, in order: a history over all passes says so, which exists in the
-//! proofs alone.
+//! Each worker has a [`Pass`], which keeps what the worker asked and what the book answered. The worker's own
+//! answers follow from what its pass keeps, by the same table of turns as in a schedule. At the end,
+//! [`Live::finish`] returns the trace of all that the workers did, with its audit.
 //!
-//! Of waiting nothing is promised: a contract of a call that waits holds if the call returns.
+//! One run of the machine led to this trace. Each pass keeps what that run gave its worker, in order, including
+//! refusals and paths. A history over all passes says so, and exists only in the proofs.
+//!
+//! Nothing is promised about waiting: a contract of a call that waits holds if the call returns.
 #![tactic(auto)]
 
 mod crew;

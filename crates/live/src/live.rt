@@ -31,17 +31,17 @@ use std::alloc::{AllocError, Global};
 use std::sync::{Condvar, Mutex, Wait};
 use trace::audit;
 
-/// A machine that workers share: its book under one lock, and its device, whose calls are made outside it.
+/// A machine that workers share: its book under one lock, and its device, which is called outside the lock.
 ///
-/// `L` tells what it was opened with, and which history has what its workers are told. It must be spent, by
-/// [`Live::finish`] or [`Live::give_up`].
+/// `L` says how the machine was opened, and which history has the exchanges of its workers. [`Live::finish`] or
+/// [`Live::give_up`] must spend it.
 pub struct Live<L: Opened, D: SharedDevice> {
     pub(crate) shared: Mutex<SharedBook<L>>,
     /// The first seat of the marks of frames. Its lock and the book's are never held together.
     pub(crate) first: Mutex<First>,
-    /// A transfer has ended, or the daemon is wanted.
+    /// Notified when a transfer has ended, or when the daemon has to run.
     pub(crate) moved: Condvar,
-    /// Its device. Whoever calls it through this goes behind the machine's back.
+    /// Its device. The machine does not see a call that is made through this field.
     pub device: D,
     pub(crate) marks: Watermarks,
     pub(crate) placement: Placement,
@@ -52,8 +52,8 @@ pub struct Live<L: Opened, D: SharedDevice> {
 }
 
 impl<L: Opened, D: SharedDevice> Live<L, D> {
-    /// A machine at which nobody works yet, with a device that has as many blocks as the configuration asks
-    /// for, and the roll of its passes. It fails as [`Book::open`] does, and hands the device back.
+    /// A machine without workers, and the roll of its passes. The device has the blocks that the configuration asks
+    /// for. The call fails as [`Book::open`] does, and then returns the device.
     pub fn open(
         alloc: Global,
         config: Config,
@@ -96,8 +96,8 @@ impl<L: Opened, D: SharedDevice> Live<L, D> {
         }
     }
 
-    /// A pass for one worker more, which the roll counts. `NoSpace` where 131,072 were given out, and otherwise
-    /// `NoMemory` where memory is refused.
+    /// A pass for another worker, which the roll counts. `NoSpace` if 131,072 passes were given out. Otherwise
+    /// `NoMemory` if memory is refused.
     pub fn pass<R: Wait>(&self, rt: &R, roll: &mut Roll<L>) -> Result<Pass<L>, Refusal>
         ensures kept { IfOk result (λ pass. pass.kept ≡ []) }
         ensures exchanges { IfOk result (λ pass. pass.exchanges ≡ []) }
@@ -109,7 +109,7 @@ impl<L: Opened, D: SharedDevice> Live<L, D> {
         self.shared.lock(rt).pass(roll)
     }
 
-    /// Has the daemon end, once it has run once more.
+    /// Makes the daemon end, after it has run once more.
     pub fn stop<R: Wait>(&self, rt: &R) {
         self.shared.lock(rt).stop();
         self.moved.notify_all();
@@ -130,9 +130,10 @@ fn has_out<L: Opened>(passes: &[Pass<L>]) -> bool
 }
 
 impl<L: Opened, D: SharedDevice + Drop> Live<L, D> {
-    /// Ends the run, where each pass is handed in and none has a ticket out: what the workers did, and its audit.
+    /// Ends the run if each pass is handed in and none has a ticket out. Returns what the workers did, with its
+    /// audit.
     ///
-    /// Otherwise `PassMissing`, with how many passes were given out, and all is handed back.
+    /// Otherwise `PassMissing`, with the number of passes that were given out, and everything is returned.
     pub fn finish(
         self,
         passes: Vec<Pass<L>>,
@@ -183,7 +184,7 @@ impl<L: Opened, D: SharedDevice + Drop> Live<L, D> {
         })
     }
 
-    /// Ends everything, and tells nothing of it.
+    /// Ends everything, without a report.
     pub fn give_up(self, roll: Roll<L>) {
         let Live {
             shared,

@@ -1,12 +1,12 @@
-//! What the machine that workers share was opened with, and which history it is.
+//! How the machine that workers share was opened, and which history it has.
 
 ghost use Rattle.atomic_table.specs.Seated.{TableId};
 ghost use Rattle.machine.specs.State.{Opening};
 
 use std::marker::Brand;
 
-/// Tells in a type what the machine under a lock was opened with, and which history tells of it. No contract can name
-/// what lies under a lock; what a type tells it can.
+/// A type that says how the machine under a lock was opened, and which history it has. A contract cannot say what
+/// is under a lock, but a type can.
 pub trait Opened {
     /// What the opening fixed.
     ghost opening: { Opening };
@@ -15,7 +15,7 @@ pub trait Opened {
     ghost table: { TableId };
 }
 
-/// The proof of each call of a function for this type picks both.
+/// A caller with `Brand` picks both in the proof of the call.
 impl Opened for Brand {
     ghost use Rattle.std.specs.Prelude.{[], false};
     ghost use Rattle.machine.specs.declared.config.Placement.TheVariants.{Own};

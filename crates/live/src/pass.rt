@@ -30,10 +30,10 @@ use turns::automaton::spend;
 use turns::judge::judge;
 use turns::turn::Stage;
 
-/// A worker's leave to ask the book that workers share, with what it asked and what came back; and a seat of the history,
-/// which knows the same, with the bytes of what arrived.
+/// A worker's permission to ask the book that workers share. It keeps what the worker asked and what the book
+/// answered. It also has a seat of the history, which knows the same, with the bytes of arrivals.
 ///
-/// A contract sees it as it sees a [`book::Pass`], and sees what was asked with all bytes.
+/// A contract sees it as it sees a [`book::Pass`]. It also sees what was asked, with all bytes.
 #[derive(Drop)]
 pub struct Pass<L: Opened> {
     pass: book::Pass,
@@ -82,8 +82,8 @@ impl<L: Opened> Pass<L> {
         self.pass.worker().0
     }
 
-    /// What was asked with it, the oldest first, an arrival without its bytes. A ticket in hand is its worker's own, so the end
-    /// of no transfer was answered `Stranger`.
+    /// What was asked with it and the answers, the oldest first. An arrival is kept without its bytes. A ticket in
+    /// hand is its worker's own, so no end of a transfer was answered `Stranger`.
     pub fn kept(&self) -> &[Kept]
         ensures kept { result.now ≡ self.now.kept }
         ensures whole { map kept_of self.now.exchanges ≡ self.now.kept }
@@ -102,7 +102,7 @@ impl<L: Opened> Pass<L> {
         self.seen = ended;
     }
 
-    /// It has this seat of the marks from now on, or none.
+    /// Gives the pass this seat of the marks, or none.
     pub(crate) fn sit(&mut self, hand: Option<Hand>)
         ensures same { self.new ≡ self.old }
         ensures known { strange self.new.kept ≡ 0 }
@@ -110,7 +110,7 @@ impl<L: Opened> Pass<L> {
         self.hand = hand;
     }
 
-    /// The page that was hit, if one was, is marked (kernel: the processor's set of the accessed bit).
+    /// Marks the page that was hit, if one was (kernel: the processor sets the accessed bit).
     pub(crate) fn mark(&mut self, reply: &Reply)
         ensures { self.new ≡ self.old }
     {
@@ -126,8 +126,8 @@ impl<L: Opened> Pass<L> {
         }
     }
 
-    /// All marks that were set are merged into the book (kernel: a walk of `walk_mm`). It takes no memory, and waits
-    /// for nobody.
+    /// Merges all marks that were set into the book (kernel: a walk of `walk_mm`). It takes no memory, and does not
+    /// wait.
     pub(crate) fn gather(&mut self, book: &mut Book)
         requires room { 0 < self.old.room }
         ensures pass { self.new ≡ self.old }
@@ -145,7 +145,7 @@ impl<L: Opened> Pass<L> {
         }
     }
 
-    /// The same of one word.
+    /// The same for one word.
     fn gather_word(&mut self, book: &mut Book, word: u32)
         requires room { 0 < self.old.room }
         ensures pass { self.new ≡ self.old }
@@ -157,7 +157,7 @@ impl<L: Opened> Pass<L> {
         }
     }
 
-    /// The marks of a word, if it has a seat.
+    /// Takes the marks of a word, if the pass has a seat.
     fn take(&mut self, word: u32) -> u64
         ensures { self.new ≡ self.old }
     {
@@ -167,7 +167,7 @@ impl<L: Opened> Pass<L> {
         }
     }
 
-    /// Memory for so many events or paths more.
+    /// Reserves memory for this number of further events or paths.
     pub(crate) fn reserve(&mut self, more: usize) -> Result<(), AllocError>
         ensures room { OnOk result (more ≤ self.new.room) }
         ensures exchanges { self.new.exchanges ≡ self.old.exchanges }
@@ -180,7 +180,7 @@ impl<L: Opened> Pass<L> {
         }
     }
 
-    /// One event of the book. The history has the event, with all bytes, and what it was told.
+    /// Asks the book for one event. The history gets the event with all bytes, and its answer.
     pub(crate) fn ask<A: Asked>(&mut self, book: &mut Book, log: &mut Log, event: Event) -> Reply
         requires asked { A.events ≡ event_of event ∷ [] }
         requires room { 0 < self.old.room }
@@ -204,7 +204,7 @@ impl<L: Opened> Pass<L> {
         reply
     }
 
-    /// What becomes of a command in its first turn. The history has the paths that were looked up.
+    /// The result of a command's first turn. The history gets the paths that were looked up.
     pub(crate) fn judge(
         &mut self,
         alloc: Global,
@@ -228,7 +228,7 @@ impl<L: Opened> Pass<L> {
         Ok(judged)
     }
 
-    /// The pass as it is kept after the end, and its seat of the history.
+    /// The pass as it is after the end, and its seat of the history.
     pub(crate) fn end(self) -> (EndedPass, Front)
         ensures pass { result.0 ≡ book_pass self }
         ensures of_these { result.1.table_id ≡ L.table }

@@ -1,4 +1,4 @@
-//! What the end of a run says.
+//! What a run returns at its end.
 
 ghost use Rattle.std.specs.Prelude.{◌≡◌};
 
@@ -6,9 +6,7 @@ use book::{Kept, Pass};
 use std::marker::Model;
 use trace::{First, Trace};
 
-/// A pass after the end of its run. It can be read; nothing is asked with it any more.
-///
-/// A contract sees it as it sees a [`book::Pass`].
+/// A pass after the end of its run. It can be read, but nothing can be asked with it.
 #[derive(Drop)]
 pub struct EndedPass {
     pass: Pass,
@@ -36,7 +34,7 @@ impl EndedPass {
         self.pass.worker().0
     }
 
-    /// What was asked with it, the oldest first, an arrival without its bytes.
+    /// What was asked with it and the answers, the oldest first. An arrival is kept without its bytes.
     pub fn kept(&self) -> &[Kept]
         ensures { result.now ≡ self.now.kept }
     {
@@ -44,16 +42,16 @@ impl EndedPass {
     }
 }
 
-/// What workers did, from the opening to the end, and what they did it with.
+/// What the workers did, from the opening to the end, with their passes and their device.
 #[derive(Drop)]
 pub struct Report<D> {
-    /// All that was asked and answered, in the order in which the book took it.
+    /// The events that were not refused, with their replies, in the order in which the book took them.
     pub trace: Trace,
-    /// Whether the answers that each worker's pass keeps are those of its entries in the trace, all of them. They always
-    /// are.
+    /// Whether the answers that each worker's pass keeps are the answers of all its entries in the trace. They
+    /// always are.
     pub replies_match: bool,
-    /// Whether each page that arrived brought what was last written, and each read gave it; or the first entry
-    /// of which that is not so.
+    /// `Ok` if each page that arrived brought what was last written, and each read returned it. Otherwise the first
+    /// entry that did not.
     pub audit: Result<(), First>,
     /// The passes that were handed in, in the same order.
     pub passes: Vec<EndedPass>,
@@ -64,6 +62,6 @@ pub struct Report<D> {
 /// Why a run is not finished.
 #[derive(Clone, Copy, PartialEq, Eq)]
 pub enum Unfinished {
-    /// So many passes were given out, and one of them was not handed in, or has a ticket out.
+    /// One of the passes was not handed in, or has a ticket out. The number says how many passes were given out.
     PassMissing(u32),
 }

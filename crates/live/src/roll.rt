@@ -7,9 +7,9 @@ use crate::history::{Front, Log};
 use crate::opened::Opened;
 use std::marker::{Model, PhantomData};
 
-/// How many passes were given out. [`Live::open`](crate::Live::open) makes it, [`Live::pass`](crate::Live::pass) counts
-/// it up, and it must be spent at the end, by [`Live::finish`](crate::Live::finish) or
-/// [`Live::give_up`](crate::Live::give_up).
+/// The number of passes that were given out. [`Live::open`](crate::Live::open) makes it, and
+/// [`Live::pass`](crate::Live::pass) adds one. [`Live::finish`](crate::Live::finish) or
+/// [`Live::give_up`](crate::Live::give_up) must spend it at the end.
 pub struct Roll<L: Opened> {
     given: u32,
     front: Front,
@@ -47,7 +47,7 @@ impl<L: Opened> Roll<L> {
         self.given
     }
 
-    /// It has counted the passes that were given out.
+    /// The roll has counted the passes that were given out. Nothing changes.
     pub(crate) fn agree(&mut self, log: &mut Log)
         requires of_these { log.old.table ≡ L.table }
         ensures roll { self.new ≡ self.old }
@@ -57,7 +57,7 @@ impl<L: Opened> Roll<L> {
         log.agree(&mut self.front, self.given);
     }
 
-    /// A pass more is given out, and so many were given out then.
+    /// Gives out another pass. `given` is the number of passes given out after that.
     pub(crate) fn give_out(&mut self, log: &mut Log, given: u32) -> Front
         requires of_these { log.old.table ≡ L.table }
         requires given { given ≡ log.old.given + 1 }

@@ -1,4 +1,4 @@
-//! What lies under the lock.
+//! What is kept under the lock.
 
 ghost use Rattle.std.specs.Prelude.{◌≡◌, ◌⊎◌, ℕ, ◌+◌, ◌<◌, ◌≤◌, [], false, length, map, reverse, vec_capacity, IfOk, IfErr, OnOk, OnErr, All};
 ghost use Rattle.std.specs.List.{sum_by};
@@ -32,7 +32,7 @@ use std::marker::{Brand, Model, PhantomData};
 use trace::Trace;
 use turns::turn::Stage;
 
-/// The book that workers share, with the history of what they were told, and what is known of it for those who wait.
+/// The book that workers share, with the history of their exchanges, and what waiting workers need to know of it.
 ///
 /// A contract sees it as the book's past.
 pub struct SharedBook<L: Opened> {
@@ -43,7 +43,7 @@ pub struct SharedBook<L: Opened> {
     /// How many transfers have ended.
     ended: u64,
     is_stopped: bool,
-    /// Whether as many frames as the low mark were free since the daemon last began.
+    /// Whether free frames were at or above the low watermark since the daemon last began.
     is_armed: bool,
     of: PhantomData<L>,
 }
@@ -60,10 +60,10 @@ impl<L: Opened> Model for SharedBook<L> {
     ghost invariant = { λ s. IsShared L.table L.opening s.book s.log × (s.ended_passes.items ≡ []) × (s.book.passes ≤ vec_capacity s.ended_passes) };
 }
 
-/// A book gives out so many passes.
+/// The most passes that a book gives out.
 const MOST_PASSES: u32 = 131_072;
 
-/// Whether it ends a transfer, for which others may wait.
+/// Whether the event ends a transfer, for which others may wait.
 fn is_end(event: &Event) -> bool
     ensures { result ≡ is_ending event.now }
 {
@@ -73,7 +73,7 @@ fn is_end(event: &Event) -> bool
     )
 }
 
-/// Whether a page may be taken.
+/// Whether the event may evict a page.
 fn takes(event: &Event) -> bool {
     matches!(event, Event::Relieve(_) | Event::ReclaimOne(_))
 }
@@ -98,7 +98,7 @@ impl<L: Opened> SharedBook<L> {
         }
     }
 
-    /// A pass for one worker more, which the roll counts.
+    /// A pass for another worker, which the roll counts.
     pub fn pass(&mut self, roll: &mut Roll<L>) -> Result<Pass<L>, Refusal>
         ensures kept { IfOk result (λ pass. pass.kept ≡ []) }
         ensures exchanges { IfOk result (λ pass. pass.exchanges ≡ []) }
@@ -121,7 +121,7 @@ impl<L: Opened> SharedBook<L> {
         Ok(Pass::new(pass, front))
     }
 
-    /// One event. Before a page is taken all marks that were set are merged.
+    /// Asks the book for one event. If the event may evict a page, all marks that were set are merged first.
     pub fn call(&mut self, pass: &mut Pass<L>, event: Event) -> Reply
         requires room { 0 < pass.old.room }
         requires own { OwnEvent pass.old.caller.worker (blocks_in L.opening) event }
@@ -146,7 +146,7 @@ impl<L: Opened> SharedBook<L> {
         reply
     }
 
-    /// The same, with nothing noted for those who wait.
+    /// The same, without a note for those who wait.
     fn ask(&mut self, pass: &mut Pass<L>, event: Event) -> Reply
         requires room { 0 < pass.old.room }
         requires own { OwnEvent pass.old.caller.worker (blocks_in L.opening) event }
@@ -162,7 +162,7 @@ impl<L: Opened> SharedBook<L> {
         reply
     }
 
-    /// What becomes of a command in its first turn.
+    /// The result of a command's first turn.
     pub fn judge(
         &mut self,
         alloc: Global,
@@ -188,13 +188,13 @@ impl<L: Opened> SharedBook<L> {
         self.book.free_frames() < self.book.watermarks().low
     }
 
-    /// Whether the daemon is to run: fewer frames than the low mark are free, and were not since it last began;
-    /// or it is to end.
+    /// Whether the daemon has to run: it has to end, or free frames fell below the low watermark since it last
+    /// began and are below it now.
     pub fn wants_daemon(&self) -> bool {
         self.is_stopped || (self.is_armed && self.is_low())
     }
 
-    /// The daemon runs. Whether it is to end then.
+    /// Notes that the daemon runs. Returns whether it has to end after this run.
     pub fn begin_daemon(&mut self) -> bool {
         if self.is_low() {
             self.is_armed = false;
@@ -210,7 +210,7 @@ impl<L: Opened> SharedBook<L> {
         self.ended
     }
 
-    /// Ends the book: its trace.
+    /// Ends the book, and returns its trace.
     pub fn close(self) -> Trace {
         let SharedBook {
             book,
@@ -224,7 +224,7 @@ impl<L: Opened> SharedBook<L> {
         book.close()
     }
 
-    /// Ends the book with all its passes: its trace, and the passes.
+    /// Ends the book with all its passes. Returns its trace, and the passes.
     pub fn settle(self, passes: Vec<Pass<L>>, roll: Roll<L>) -> (Trace, Vec<EndedPass>)
         requires { roll.given ≤ length passes.items }
         ensures count { length passes.items ≡ roll.given }
@@ -255,7 +255,7 @@ impl<L: Opened> SharedBook<L> {
     }
 }
 
-/// All seats are brought together: they have all that the history has. The passes come back, in the room for them.
+/// Brings all seats together: they have all that the history has. Returns the passes, in the room for them.
 fn bring_together<L: Opened>(
     ending: Ending,
     passes: Vec<Pass<L>>,

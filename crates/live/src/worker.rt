@@ -34,7 +34,7 @@ fn out_of_memory(actor: Actor) -> Told
     }
 }
 
-/// Whether it ends a transfer.
+/// Whether the event ends a transfer.
 fn is_end(event: &Event) -> bool
     ensures { result ≡ is_ending event.now }
 {
@@ -45,7 +45,7 @@ fn is_end(event: &Event) -> bool
 }
 
 impl<L: Opened, D: SharedDevice> Live<L, D> {
-    /// One event. A page that it hits is marked, if it is to be, once the lock is let go of.
+    /// Asks the book for one event. If `marks` is set, the page that it hits is marked after the lock is released.
     fn call<R: Wait>(&self, rt: &R, pass: &mut Pass<L>, event: Event, marks: bool) -> Reply
         requires room { 0 < pass.old.room }
         requires own { OwnEvent pass.old.caller.worker (blocks_in L.opening) event }
@@ -79,7 +79,7 @@ impl<L: Opened, D: SharedDevice> Live<L, D> {
             .wait_while(rt, guard, |shared| shared.ended() == seen);
     }
 
-    /// How many frames are free, where the daemon asks. Nobody else wants to know.
+    /// How many frames are free, if the daemon asks. No other command needs the number.
     fn free_for<R: Wait>(&self, rt: &R, stage: &Stage) -> u32 {
         match stage {
             Stage::Watch | Stage::Balance => self.shared.lock(rt).free_frames(),
@@ -87,7 +87,7 @@ impl<L: Opened, D: SharedDevice> Live<L, D> {
         }
     }
 
-    /// One event of the book, and what the command makes of the reply.
+    /// Asks the book for one event, and passes the reply to the command.
     fn ask_book<R: Wait>(
         &self,
         rt: &R,
@@ -113,7 +113,7 @@ impl<L: Opened, D: SharedDevice> Live<L, D> {
         told(self.alloc, pending, reply)
     }
 
-    /// Reads the ticket's block, with no lock held.
+    /// Reads the ticket's block. No lock is held.
     fn read_in<R: Wait>(&self, rt: &R, access: Access, ticket: InTicket) -> Transition
         requires { ticket.block < blocks_in L.opening }
         ensures reads { Reads access ticket [] result }
@@ -127,7 +127,7 @@ impl<L: Opened, D: SharedDevice> Live<L, D> {
         }
     }
 
-    /// Writes the ticket's block, with no lock held.
+    /// Writes the ticket's block. No lock is held.
     fn write_out<R: Wait>(&self, rt: &R, resume: Resume, ticket: OutTicket) -> Transition
         requires { ticket.block < blocks_in L.opening }
         ensures writes { Writes resume ticket [] result }
@@ -140,7 +140,7 @@ impl<L: Opened, D: SharedDevice> Live<L, D> {
         }
     }
 
-    /// One turn of a command that stands there. It fails where memory is refused for a text.
+    /// One turn of a command at this stage. It fails if memory is refused for a text.
     fn turn<R: Wait>(
         &self,
         rt: &R,
@@ -168,8 +168,8 @@ impl<L: Opened, D: SharedDevice> Live<L, D> {
         }
     }
 
-    /// Room for an event and for the end of the transfer whose ticket it may give out, and for a kill and an
-    /// answer more besides those that are spared.
+    /// Reserves room for an event, and for the end of the transfer whose ticket it may give out. Reserves room for
+    /// a kill and an answer, besides `spare` other answers.
     fn make_room(
         &self,
         pass: &mut Pass<L>,
@@ -184,7 +184,7 @@ impl<L: Opened, D: SharedDevice> Live<L, D> {
         answers.reserve(spare.saturating_add(2))
     }
 
-    /// Room for one turn more. Where a ticket is in hand there is room already.
+    /// Reserves room for another turn. If a ticket is in hand, there is room already.
     fn ready(
         &self,
         pass: &mut Pass<L>,
@@ -205,8 +205,8 @@ impl<L: Opened, D: SharedDevice> Live<L, D> {
         self.make_room(pass, answers, spare)
     }
 
-    /// One turn of a command that stands there, and what is told of it. It answers where the command goes
-    /// on, or nothing where it has ended.
+    /// One turn of a command at this stage, with its answers. Returns the stage in which the command continues, or
+    /// `None` if it has ended.
     fn step<R: Wait>(
         &self,
         rt: &R,
@@ -260,7 +260,7 @@ impl<L: Opened, D: SharedDevice> Live<L, D> {
         }
     }
 
-    /// Turns until the command has ended. There is no limit.
+    /// Takes turns until the command has ended. There is no limit.
     fn run<R: Wait>(
         &self,
         rt: &R,
@@ -310,7 +310,7 @@ impl<L: Opened, D: SharedDevice> Live<L, D> {
         Ok(judged)
     }
 
-    /// What was judged is answered, or run.
+    /// Answers a command that was refused, or runs it.
     fn judged<R: Wait>(
         &self,
         rt: &R,
@@ -358,12 +358,12 @@ impl<L: Opened, D: SharedDevice> Live<L, D> {
         }
     }
 
-    /// A seat of the marks, for a worker who begins. The book's lock is not held meanwhile.
+    /// A seat of the marks, for a worker that begins. The book's lock is not held during the call.
     fn seat<R: Wait>(&self, rt: &R) -> Option<Hand> {
         self.first.lock(rt).hand()
     }
 
-    /// All commands, in order.
+    /// Runs all commands, in order.
     pub(crate) fn work<R: Wait>(
         &self,
         rt: &R,
@@ -391,11 +391,11 @@ impl<L: Opened, D: SharedDevice> Live<L, D> {
         Ok(answers)
     }
 
-    /// Answers the task's commands, in order. `busy` is no answer: the worker waits until a transfer has ended,
-    /// and tries again.
+    /// Answers the task's commands, in order. `busy` is not an answer here: the worker waits until a transfer has
+    /// ended, and tries again.
     ///
-    /// Room for an answer to each command and for one kill is made first; `NoMemory` where that is refused, and
-    /// nothing is done. Room for more kills is made turn by turn.
+    /// Room for an answer to each command and for one kill is reserved first. `NoMemory` if it is refused, and then
+    /// nothing is done. Room for further kills is reserved turn by turn.
     pub fn task<R: Wait>(
         &self,
         rt: &R,
@@ -430,8 +430,8 @@ impl<L: Opened, D: SharedDevice> Live<L, D> {
         self.work(rt, pass, Actor::Control, commands)
     }
 
-    /// Runs the daemon's command where fewer frames than the low mark are free, then not again before as many
-    /// were free; and once more after [`Live::stop`] (kernel: `kswapd`).
+    /// Runs the daemon's command when free frames are below the low watermark, and not again until they have
+    /// reached it. Runs it once more after [`Live::stop`] (kernel: `kswapd`).
     pub fn daemon<R: Wait>(&self, rt: &R, pass: &mut Pass<L>)
         ensures works { Repeated L.opening.watermarks Actor.Daemon Command.Daemon pass.old.exchanges pass.new.exchanges }
         ensures share { KeepsShare pass.old.kept pass.new.kept }
@@ -451,7 +451,7 @@ impl<L: Opened, D: SharedDevice> Live<L, D> {
         unreachable!()
     }
 
-    /// Sleeps until the daemon is wanted. Whether it is to end then.
+    /// Sleeps until the daemon has to run. Returns whether it has to end after this run.
     fn doze<R: Wait>(&self, rt: &R) -> bool {
         let guard = self.shared.lock(rt);
         let mut shared = self

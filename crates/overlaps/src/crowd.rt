@@ -1,4 +1,4 @@
-//! Runs lines by workers of one machine.
+//! Runs lines with workers of one machine.
 
 ghost use Rattle.std.specs.Prelude.{◌≡◌, ◌≤◌};
 ghost use Rattle.machine.specs.State.{opening_of};
@@ -17,21 +17,22 @@ use std::test::Fail;
 use std::thread::Threads;
 use trace::First;
 
-/// What came of it.
+/// The result of such a run.
 #[derive(Drop)]
 pub struct Ended {
-    /// What was answered before the workers worked at the same time, by each of them, and behind that.
+    /// The answers before the workers worked at the same time. `rows` has the answers of each worker, and `behind`
+    /// the answers after that.
     pub before: String,
     pub rows: Vec<String>,
     pub behind: String,
-    /// How many passes were given out, as is said where one of them is not handed in.
+    /// How many passes were given out. The run says so if one of them is not handed in.
     pub given: u32,
     pub replies_match: bool,
     pub audit: Result<(), First>,
 }
 
 impl Ended {
-    /// What was answered to the worker of this row.
+    /// The answers to the worker of this row.
     pub fn row(&self, number: usize) -> Option<&str> {
         match self.rows.get(number) {
             Some(row) => Some(row.as_str()),
@@ -40,7 +41,7 @@ impl Ended {
     }
 }
 
-/// What these lines ask for, without those of the header.
+/// What these lines ask for, without header lines.
 pub fn asked(alloc: Global, lines: &str) -> Result<Vec<(Actor, Command)>, Fail> {
     match read(alloc, lines.as_bytes(), Mode::Run) {
         Ok(script) => Ok(script.setup),
@@ -55,7 +56,7 @@ fn print_all(text: &mut String, answers: &[Reply]) -> Result<(), Fail> {
     Ok(())
 }
 
-/// Each command, one after the other, by one pass. What is answered.
+/// Runs each command, one after the other, with one pass. Returns the answers.
 pub fn in_turn<L: Opened, R: Wait>(
     rt: &R,
     alloc: Global,
@@ -139,7 +140,8 @@ fn work<L: Opened + Send + Sync, R: Threads + Wait + Sync>(
     })
 }
 
-/// The end of a run: it is refused without one of the passes, which says how many there are, and made with it.
+/// Ends a run. First it tries without one of the passes. This is refused, with the number of passes. Then it ends
+/// the run with all of them.
 pub fn finish<L: Opened>(
     live: Live<L, Gate>,
     passes: Vec<Pass<L>>,
@@ -217,8 +219,8 @@ fn run_over<L: Opened + Send + Sync, R: Threads + Wait + Sync>(
     }
 }
 
-/// Runs the lines before, with their header, one after the other; then each of the rows by a worker of its own, all at
-/// once, the daemon beside them; then the lines behind.
+/// Runs the lines before, with their header, one after the other. Then each row is run by a worker of its own, all
+/// at once, with the daemon. Then the lines `behind` are run.
 pub fn crowd<R: Threads + Wait + Sync>(
     rt: &R,
     alloc: Global,

@@ -7,13 +7,13 @@ use std::alloc::{AllocError, Global};
 use std::sync::atomic::{AtomicBool, AtomicU64, Ordering};
 use std::sync::{Arc, Mutex, Wait};
 
-/// For so many turns of its loop a call is held at most.
+/// A call is held for at most this number of turns of its loop.
 const MOST_TURNS: u64 = 100_000_000;
 
-/// For so many turns a call is held where another worker is to come meanwhile and wait for it.
+/// A call is held for this number of turns, so that another worker can come and wait for it.
 const A_WHILE: u64 = 1_000_000;
 
-/// What the device does beside reading and writing.
+/// What the device does besides reading and writing.
 #[derive(Clone, Copy, PartialEq, Eq)]
 pub enum Manner {
     Plain,
@@ -21,7 +21,7 @@ pub enum Manner {
     HoldsReads,
     /// The first write, likewise.
     HoldsWrites,
-    /// The first read is held until a second one has begun, and fails where one has.
+    /// The first read is held until a second one has begun, and fails if one has.
     FailsHeldRead,
     /// The first write, likewise.
     FailsHeldWrite,
@@ -31,15 +31,15 @@ pub enum Manner {
     FailsWriteLate,
     /// A third read is held until a third write has begun, and a second write until a third read has.
     HoldsAcross,
-    /// Likewise, and the third read fails where the third write has begun.
+    /// Likewise, and the third read fails if the third write has begun.
     FailsAcross,
-    /// Each write is held until it is let go.
+    /// Each write is held until the test releases it.
     HoldsUntilLetGo,
-    /// Each byte that is read is one more than it was written.
+    /// Each byte is read as the byte that was written, plus one.
     AddsOne,
     /// Each call fails.
     FailsAll,
-    /// Every second call fails, the first among them.
+    /// Every second call fails, beginning with the first.
     FailsEachOnce,
 }
 
@@ -52,17 +52,17 @@ pub struct Signals {
 }
 
 impl Signals {
-    /// Waits until a write has begun. Whether one has.
+    /// Waits until a write has begun. Returns whether one has.
     pub fn wait_for_write(&self) -> bool {
         reaches(&self.writes, 1)
     }
 
-    /// Writes that are held are let go.
+    /// Releases the writes that are held.
     pub fn let_go(&self) {
         self.is_let_go.store(true, Ordering::SeqCst);
     }
 
-    /// Waits until writes are let go. Whether they are.
+    /// Waits until writes are released. Returns whether they are.
     fn wait_until_let_go(&self) -> bool {
         for _turn in 0..MOST_TURNS {
             if self.is_let_go.load(Ordering::SeqCst) {
@@ -73,12 +73,12 @@ impl Signals {
     }
 }
 
-/// Waits until so many calls have begun. Whether they have.
+/// Waits until this number of calls have begun. Returns whether they have.
 fn reaches(begun: &AtomicU64, calls: u64) -> bool {
     reaches_within(MOST_TURNS, begun, calls)
 }
 
-/// The same, for so many turns of the loop at most.
+/// The same, for at most this number of turns of the loop.
 fn reaches_within(turns: u64, begun: &AtomicU64, calls: u64) -> bool {
     for _turn in 0..turns {
         if begun.load(Ordering::SeqCst) >= calls {
@@ -119,7 +119,7 @@ impl Gate {
         Arc::try_clone(&self.signals)
     }
 
-    /// Whether a call fails, of which there were so many of both kinds before.
+    /// Whether a call fails. `before` is the number of earlier calls, of both kinds.
     fn fails(&self, before: u64) -> bool {
         match self.manner {
             Manner::FailsAll => true,
@@ -128,7 +128,8 @@ impl Gate {
         }
     }
 
-    /// Holds a read, before which there were so many, as long as it has to be. Whether it is let go.
+    /// Holds a read as long as it has to be held. `before` is the number of earlier reads. Returns whether the read
+    /// then succeeds.
     fn hold_read(&self, before: u64) -> bool {
         match self.manner {
             Manner::HoldsReads => reaches(&self.signals.reads, 2),
@@ -143,7 +144,7 @@ impl Gate {
         }
     }
 
-    /// The same of a write.
+    /// The same for a write.
     fn hold_write(&self, before: u64) -> bool {
         match self.manner {
             Manner::HoldsWrites => reaches(&self.signals.writes, 2),

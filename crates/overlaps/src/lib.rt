@@ -1,7 +1,7 @@
-//! Workers whose transfers overlap, over devices that show it: tests of `live`.
+//! Tests of `live`: workers whose transfers overlap, over devices that show it.
 //!
-//! What a device does beside reading and writing is told by its manner. A call that is held is held for so many turns of a
-//! loop at most. So each test ends by itself, but where one who waits is not woken.
+//! A device's manner says what it does besides reading and writing. A held call ends after a limited number of
+//! turns of a loop. Each test ends by itself, unless a waiting worker is not woken.
 #![tactic(auto)]
 
 #[cfg(test)]

@@ -1,4 +1,4 @@
-//! How the daemon is told to end.
+//! How a test stops the daemon.
 
 ghost use Rattle.std.specs.Prelude.{◌≡◌, ◌≤◌};
 ghost use Rattle.machine.specs.State.{opening_of};
@@ -18,20 +18,20 @@ use std::test::Fail;
 use std::thread;
 use std::thread::Threads;
 
-/// Three of four frames are used. The daemon begins below two free ones, and goes on up to three.
+/// Three of four frames are used. The daemon begins below two free ones, and continues up to three.
 const USED: &str =
     "frames 4\nswap 4\nwatermarks 2 3\ngroup /a\ntask 1 /a\n1 write 0 0 1\n1 write 1 0 1\n1 write 2 0 1\n";
 
-/// When the daemon is told to end.
+/// When the test stops the daemon.
 #[derive(Clone, Copy, PartialEq, Eq)]
 enum When {
     /// Before it begins.
     Before,
-    /// While a page that it takes is being written out.
+    /// While a page that it evicts is being written out.
     During,
 }
 
-/// The daemon runs until it has ended. Whether it was told to when it was to be told.
+/// Runs the daemon until it has ended. Returns whether it was stopped when it had to be.
 fn run_daemon<L: Opened + Send + Sync, R: Threads + Wait + Sync>(
     rt: &R,
     live: &Live<L, Gate>,
@@ -59,7 +59,8 @@ fn run_daemon<L: Opened + Send + Sync, R: Threads + Wait + Sync>(
     thread::join(rt, balance, tell)
 }
 
-/// What is answered behind the daemon's end.
+/// Runs the lines before, the daemon and the lines after it. Returns what the last ones are answered, and the
+/// passes.
 fn work<L: Opened + Send + Sync, R: Threads + Wait + Sync>(
     rt: &R,
     alloc: Global,
@@ -123,7 +124,7 @@ fn run_over<L: Opened + Send + Sync, R: Threads + Wait + Sync>(
     }
 }
 
-/// Runs the lines before, lets the daemon run until it was told to end, and then runs the lines behind.
+/// Runs the lines before, runs the daemon until it is stopped, and then runs the lines after it.
 fn stopped<R: Threads + Wait + Sync>(
     rt: &R,
     alloc: Global,

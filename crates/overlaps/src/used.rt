@@ -1,4 +1,4 @@
-//! Which pages stay where workers set marks with no lock, and merge them before a page is taken.
+//! Which pages stay if workers set marks without a lock, and merge them before a page is evicted.
 
 use crate::crowd::{Ended, crowd};
 use crate::gate::Manner;
@@ -8,11 +8,11 @@ use std::sync::Wait;
 use std::test::Fail;
 use std::thread::Threads;
 
-/// Three pages, for which there is room, but for no fourth.
+/// Three pages. There is room for them, but not for a fourth.
 const THREE: &str =
     "group /a\nset /a memory.max 12288\ntask 1 /a\n1 write 0 0 10\n1 write 1 0 11\n1 write 2 0 12\n";
 
-/// A page that is there still is read without `max`, and one that left with it.
+/// A read of a page that is still held counts no `max`, and a read of an evicted page counts one.
 const LOOKS: &str = "1 read 0 0\ncat /a memory.events\n";
 
 fn counts(max: u32, alloc: Global) -> Result<String, Fail> {
@@ -26,7 +26,8 @@ fn is_fine(ended: &Ended) -> bool {
     ended.replies_match && ended.audit == Ok(())
 }
 
-/// Each of the three pages, page 0 used by lines before or by a worker, and then a fourth, for which one leaves.
+/// Makes the three pages, and then a fourth, for which one is evicted. The lines before, or the worker, may use
+/// page 0.
 fn fourth<R: Threads + Wait + Sync>(
     rt: &R,
     alloc: Global,
@@ -81,8 +82,8 @@ fn a_used_page_stays_in_any_word(rt: HostRuntime) -> Result<(), Fail> {
 
 #[test]
 fn the_daemon_merges_first(rt: HostRuntime) -> Result<(), Fail> {
-    // Three of four frames are used, and the daemon goes on up to three: it takes two pages, and not the one that was used,
-    // which would come back with another byte.
+    // Three of four frames are used, and the daemon continues up to three free ones. It evicts two pages, and not
+    // the one that was used: that one would come back with another byte.
     let before =
         "frames 4\nswap 4\nwatermarks 2 3\ngroup /a\ntask 1 /a\n1 write 0 0 10\n1 write 1 0 11\n1 write 2 0 12\n1 read 0 0\n";
     let ended = crowd(

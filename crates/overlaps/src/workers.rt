@@ -1,4 +1,4 @@
-//! What workers are told whose transfers overlap, or fail, or bring other bytes.
+//! What workers are answered if their transfers overlap, fail or bring other bytes.
 
 use crate::crowd::{Ended, crowd};
 use crate::gate::Manner;
@@ -15,7 +15,8 @@ fn is_fine(ended: &Ended) -> bool {
 
 #[test]
 fn reads_overlap(rt: HostRuntime) -> Result<(), Fail> {
-    // The device holds the first read until the second has begun, so that a lock held over it would end both in EIO.
+    // The device holds the first read until the second has begun. If a lock were held during the call, the first
+    // read would end in EIO.
     let rows = ["1 read 0 0\n", "2 read 0 0\n"];
     let ended = crowd(&rt, rt.alloc(), Manner::HoldsReads, SWAPPED, &rows, "")?;
     assert_eq!(rt; ended.before.as_str(), "");
@@ -43,8 +44,8 @@ fn writes_overlap(rt: HostRuntime) -> Result<(), Fail> {
 
 #[test]
 fn one_of_two_reads_fails(rt: HostRuntime) -> Result<(), Fail> {
-    // The read that is held fails once the other has begun: a lock held over it would let it go well. Which task's it is,
-    // is left open. Behind that a third task has all frames and blocks, and no more.
+    // The held read fails after the other has begun. If a lock were held during the call, it would succeed. Either
+    // task's read may be the held one. After that, a third task has all frames and blocks, and no more.
     let before = format!(in rt.alloc(); "frames 2\n{SWAPPED}")?;
     let rows = ["1 read 0 0\n", "2 read 0 0\n"];
     let behind =
@@ -70,7 +71,7 @@ fn one_of_two_reads_fails(rt: HostRuntime) -> Result<(), Fail> {
 
 #[test]
 fn one_of_two_writes_fails(rt: HostRuntime) -> Result<(), Fail> {
-    // The page whose write failed stays in its frame, and leaves when it is asked for again.
+    // The page whose write failed stays in its frame, and is evicted by the next request.
     let before = "swap 2\ngroup /a\ngroup /b\ntask 1 /a\ntask 2 /b\n1 write 0 0 5\n2 write 0 0 6\n";
     let rows = [
         "set /a memory.reclaim 4096\n",
@@ -90,7 +91,7 @@ fn one_of_two_writes_fails(rt: HostRuntime) -> Result<(), Fail> {
 
 #[test]
 fn a_page_that_is_shared_comes_once(rt: HostRuntime) -> Result<(), Fail> {
-    // Both show one page. Whoever is second finds it in transfer, and waits.
+    // Both tasks map one page. The second finds it in transfer, and waits.
     let before =
         "swap 1\ngroup /a\ntask 1 /a\n1 write 0 0 7\n1 fork 2\nset / memory.reclaim 4096\n";
     let rows = ["1 read 0 0\n", "2 read 0 0\n"];
@@ -103,7 +104,8 @@ fn a_page_that_is_shared_comes_once(rt: HostRuntime) -> Result<(), Fail> {
 
 #[test]
 fn who_waits_for_a_page_goes_on_where_its_read_fails(rt: HostRuntime) -> Result<(), Fail> {
-    // Both show one page. Whoever is first is told that its read has failed. The other, who waited for it, reads it in.
+    // Both tasks map one page. The first gets the failure of its read. The other, which waited for it, reads the
+    // page in.
     let before =
         "swap 1\ngroup /a\ntask 1 /a\n1 write 0 0 7\n1 fork 2\nset / memory.reclaim 4096\n";
     let rows = ["1 read 0 0\n", "2 read 0 0\n"];
@@ -122,8 +124,9 @@ fn who_waits_for_a_page_goes_on_where_its_read_fails(rt: HostRuntime) -> Result<
 
 #[test]
 fn who_waits_for_room_goes_on_where_the_write_fails(rt: HostRuntime) -> Result<(), Fail> {
-    // There is one page in /a, and room for no other. Whoever takes it first is told that its write has failed. The other,
-    // who waited for that, takes it then: the shell, or task 2, whose own page is made.
+    // There is one page in /a, and no room for another. The worker that evicts it first gets the failure of its
+    // write. The other waited for that, and then evicts the page. The other is the shell, or task 2, which then
+    // makes its own page.
     let before = "swap 2\ngroup /a\nset /a memory.max 4096\ntask 1 /a\ntask 2 /a\n1 write 0 0 7\n";
     let rows = ["2 write 0 0 8\n", "set /a memory.reclaim 4096\n"];
     let behind = "1 read 0 0\n2 read 0 0\n";
@@ -146,7 +149,8 @@ fn a_changed_byte_is_the_devices(rt: HostRuntime) -> Result<(), Fail> {
         "swap 1\ngroup /a\ntask 1 /a\n1 write 0 0 5\nset / memory.reclaim 4096\n1 read 0 0\n";
     let ended = crowd(&rt, rt.alloc(), Manner::AddsOne, before, &[], "")?;
     assert_eq!(rt; ended.before.as_str(), "1 6\n");
-    // The arrival: behind a group, a task, a write, a page that is taken, its end, and the access that begins the read.
+    // The arrival. Before it are a group, a task, a write, an evicted page, the end of that transfer, and the
+    // access that begins the read.
     assert_eq!(rt; ended.audit, Err(First { entry: 7 }));
     assert!(rt; ended.replies_match);
     Ok(())
@@ -174,7 +178,7 @@ fn each_call_fails_once(rt: HostRuntime) -> Result<(), Fail> {
 
 #[test]
 fn the_daemon_takes_pages_at_the_end(rt: HostRuntime) -> Result<(), Fail> {
-    // Three of four frames are used. The daemon begins below two and goes on up to three.
+    // Three of four frames are used. The daemon begins below two free ones, and continues up to three.
     let before =
         "frames 4\nswap 4\nwatermarks 2 3\ngroup /a\ntask 1 /a\n1 write 0 0 1\n1 write 1 0 1\n1 write 2 0 1\n";
     let ended = crowd(
@@ -211,13 +215,14 @@ fn a_killed_task_is_told(rt: HostRuntime) -> Result<(), Fail> {
     Ok(())
 }
 
-/// Task 1 has two pages that are charged to /b, and one on swap, which will be to /a. Swap is full, so /b can't give its
-/// pages; files can be written home.
+/// Task 1 has two pages that are charged to /b, and one on swap, which will be charged to /a. Swap is full, so /b
+/// cannot swap out its pages. Pages of files can be written out.
 const MOVED: &str =
     "swap 1\nfile f 2\ngroup /a\ngroup /b\ngroup /c\ntask 1 /b\ntask 2 /c\n1 write 1 0 1\n1 write 2 0 1\nattach 1 /a\n1 write 0 0 5\n2 fwrite f 0 0 9\n2 fwrite f 1 0 9\nset /a memory.reclaim 4096\n";
 
-/// Task 1 reads its page in. The shell's first write to the device is held until then, and that read until the shell writes
-/// once more, so that task 1 is moved to /b and killed there while its page comes in for /a.
+/// Task 1 reads its page in. The shell's first write to the device is held until that read has begun. The read is
+/// held until the shell writes again. So task 1 is moved to /b and killed there while its page is being read in for
+/// /a.
 const KILLED: [&str; 2] = [
     "1 read 0 0\n",
     "set /c memory.reclaim 4096\nattach 1 /b\nset /b memory.max 4096\nset /c memory.reclaim 4096\n",
@@ -251,7 +256,7 @@ fn a_task_that_is_killed_is_told_that_its_read_failed(rt: HostRuntime) -> Result
 
 #[test]
 fn a_pass_that_is_missing_is_told(rt: HostRuntime) -> Result<(), Fail> {
-    // A pass for the lines before and behind, one for the daemon, and one for each of the three rows.
+    // A pass for the lines before and after, one for the daemon, and one for each of the three rows.
     let rows = ["1 read 0 0\n", "2 read 0 0\n", "cat /a memory.max\n"];
     let ended = crowd(&rt, rt.alloc(), Manner::Plain, SWAPPED, &rows, "")?;
     assert_eq!(rt; ended.given, 5);
@@ -260,7 +265,7 @@ fn a_pass_that_is_missing_is_told(rt: HostRuntime) -> Result<(), Fail> {
     Ok(())
 }
 
-/// The lines of a task that goes over more pages than its group has room for, and what they answer.
+/// The lines of a task, and their answers. The group has no room for the pages of all its tasks.
 fn restless(alloc: Global, task: u32) -> Result<(String, String), Fail> {
     let mut lines = String::new(alloc);
     let mut answers = String::new(alloc);
@@ -274,7 +279,7 @@ fn restless(alloc: Global, task: u32) -> Result<(String, String), Fail> {
     Ok((lines, answers))
 }
 
-/// So many tasks of one group that has room for a few of their pages.
+/// This number of tasks in one group, which has room for a few of their pages.
 fn many(alloc: Global, tasks: u32) -> Result<(String, Vec<String>, Vec<String>), Fail> {
     let mut before = String::new(alloc);
     before.push_str("frames 32\nswap 1024\ntrace 200000\ngroup /a\nset /a memory.max 64K\n")?;
@@ -308,7 +313,7 @@ fn many_workers_share_a_limit(rt: HostRuntime) -> Result<(), Fail> {
 
 #[test]
 fn no_wake_up_is_lost(rt: HostRuntime) -> Result<(), Fail> {
-    // Both tasks show one page, which is written out again and again, so that each meets it in transfer.
+    // Both tasks map one page. It is written out again and again, so each task meets it in transfer.
     let rows = [
         "1 read 0 0\n1 read 0 0\n1 read 0 0\n1 read 0 0\n",
         "2 read 0 0\n2 read 0 0\n2 read 0 0\n2 read 0 0\n",

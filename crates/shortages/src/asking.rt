@@ -1,4 +1,4 @@
-//! One event of a machine: how it is asked, and what it is answered.
+//! One event of a machine: how it is asked, and what the machine answers.
 
 ghost use Rattle.std.specs.Prelude.{◌≡◌, ◌<◌};
 
@@ -14,7 +14,7 @@ use machine::reply::Reply as Said;
 use machine::text::Text;
 use turns::automaton::spend;
 
-/// What was answered last.
+/// The last answer.
 pub fn said(pass: &Pass) -> Option<Said> {
     match pass.kept().last() {
         Some(Kept::Call { asked: _, said }) => Some(*said),
@@ -22,7 +22,7 @@ pub fn said(pass: &Pass) -> Option<Said> {
     }
 }
 
-/// The text of a path: the one that is there already, or a new one.
+/// The text of a path: the one that is ready, or a new one.
 fn path(hunt: &mut Hunt, ready: Option<Text>, words: &str) -> Text {
     if let Some(text) = ready {
         return text;
@@ -36,7 +36,7 @@ fn path(hunt: &mut Hunt, ready: Option<Text>, words: &str) -> Text {
     }
 }
 
-/// The page comes with what the device has of it.
+/// The page arrives with the bytes that the device has.
 fn arrive(book: &mut Book, pass: &mut Pass, device: &mut MemDevice, ticket: InTicket)
     requires room { 0 < pass.old.room }
     requires own { ticket.worker ≡ pass.old.caller.worker }
@@ -52,7 +52,7 @@ fn arrive(book: &mut Book, pass: &mut Pass, device: &mut MemDevice, ticket: InTi
     }
 }
 
-/// The page doesn't come.
+/// The page could not be read in.
 fn fail_to_fetch(book: &mut Book, pass: &mut Pass, ticket: InTicket)
     requires room { 0 < pass.old.room }
     requires own { ticket.worker ≡ pass.old.caller.worker }
@@ -63,7 +63,7 @@ fn fail_to_fetch(book: &mut Book, pass: &mut Pass, ticket: InTicket)
     }
 }
 
-/// The page goes to the device.
+/// The page is written to the device.
 fn leave(book: &mut Book, pass: &mut Pass, device: &mut MemDevice, ticket: OutTicket)
     requires room { 0 < pass.old.room }
     requires own { ticket.worker ≡ pass.old.caller.worker }
@@ -78,7 +78,7 @@ fn leave(book: &mut Book, pass: &mut Pass, device: &mut MemDevice, ticket: OutTi
     }
 }
 
-/// The page stays.
+/// The page could not be written, and stays.
 fn fail_to_leave(book: &mut Book, pass: &mut Pass, ticket: OutTicket)
     requires room { 0 < pass.old.room }
     requires own { ticket.worker ≡ pass.old.caller.worker }
@@ -89,7 +89,7 @@ fn fail_to_leave(book: &mut Book, pass: &mut Pass, ticket: OutTicket)
     }
 }
 
-/// The answer is the step's, unless it has to be asked again.
+/// Keeps the answer of the step, unless the step has to be asked again.
 fn hear(hunt: &mut Hunt, told: &mut Vec<Told>, name: &'static str, reply: Option<Said>) {
     match reply {
         None => hunt.demand(false, "nothing was answered"),
@@ -111,7 +111,7 @@ fn keep(hunt: &mut Hunt, told: &mut Vec<Told>, name: &'static str, reply: Said) 
 }
 
 impl Machine {
-    /// One event, and the end of the transfer that it begins.
+    /// Asks one event, and ends the transfer that it begins.
     pub fn ask(&mut self, hunt: &mut Hunt, step: Step) {
         if self.pass.reserve(2).is_err() {
             hunt.demand(false, "a pass has no room");

@@ -14,7 +14,7 @@ use std::alloc::Global;
 use std::marker::Brand;
 use std::sync::Wait;
 
-/// Entries of the commands: a group that is made.
+/// How many entries the commands make: one, for the group that is made.
 const ENTRIES: usize = 1;
 
 /// What a machine is opened with, and what it is asked.
@@ -74,7 +74,7 @@ fn try_work<R: Wait>(rt: &R, hunt: &mut Hunt, crew: Crew) -> bool {
     }
 }
 
-/// The history of what the machine's workers are told.
+/// The history of the machine's workers.
 fn history(hunt: &mut Hunt) -> Option<Unnamed> {
     match Unnamed::new(hunt.alloc()) {
         Ok(unnamed) => Some(unnamed),
@@ -110,7 +110,7 @@ fn open<L: Opened, D: SharedDevice + Drop, R: Wait>(
     }
 }
 
-/// A pass for the shell, which asks. All passes.
+/// Makes a pass for the shell, and asks the commands with it. Returns all passes.
 fn ask<L: Opened, D: SharedDevice + Drop, R: Wait>(
     rt: &R,
     hunt: &mut Hunt,
@@ -149,7 +149,7 @@ fn list<L: Opened>(hunt: &mut Hunt) -> Vec<Pass<L>> {
     passes
 }
 
-/// Whether nothing is printed for any of them: each is done.
+/// Whether each reply says that its command is done, so that nothing is printed.
 fn are_done(replies: &[Reply]) -> bool {
     for reply in replies {
         match reply.answer {
@@ -173,7 +173,7 @@ fn is_done<L: Opened, D: SharedDevice + Drop, R: Wait>(
     }
 }
 
-/// The end: the trace is what the pass keeps, and its audit finds nothing wrong.
+/// Ends the run. The trace has to be what the pass keeps, and its audit has to find nothing wrong.
 fn finish<L: Opened, D: SharedDevice + Drop>(
     hunt: &mut Hunt,
     live: Live<L, D>,

@@ -4,7 +4,7 @@ use machine::refusal::Refusal;
 use machine::reply::Reply;
 use std::alloc::Global;
 
-/// So many allocations come behind the last step.
+/// The number of allocations after the last step.
 const BEHIND_ALL: u32 = 1000;
 
 /// Where the refusal is met.
@@ -12,32 +12,32 @@ const BEHIND_ALL: u32 = 1000;
 pub enum Met {
     /// Before the first step.
     Before,
-    /// In this step, which was told so.
+    /// In this step, which reported it.
     In(&'static str),
-    /// Behind all steps.
+    /// After all steps.
     After,
 }
 
-/// What was asked, by its name, and what was answered.
+/// The name of what was asked, and the answer.
 #[derive(Clone, Copy, PartialEq, Eq)]
 pub struct Told {
     pub name: &'static str,
     pub reply: Reply,
 }
 
-/// Where the refusal is met, and what is not as it has to be.
+/// Where the refusal is met, and what is wrong.
 #[derive(Drop)]
 pub struct Hunt {
     alloc: Global,
     /// Whether an allocation is to be refused.
     is_on: bool,
-    /// Nothing where no allocation was refused yet.
+    /// `None` if no allocation was refused yet.
     met: Option<Met>,
-    /// The first of it.
+    /// The first thing that is wrong.
     wrong: Option<&'static str>,
 }
 
-/// Whether memory is given for one number. It is let go of at once.
+/// Whether memory is given for one number. It is freed at once.
 fn is_given(alloc: Global, number: u32) -> bool {
     match Box::new(alloc, number) {
         Ok(_) => true,
@@ -56,7 +56,7 @@ impl Hunt {
         }
     }
 
-    /// No hunt: no allocation is refused, and none is made beside those of the steps.
+    /// No hunt: no allocation is refused, and only the steps allocate.
     pub fn none(alloc: Global) -> Hunt {
         Hunt {
             alloc,
@@ -83,14 +83,14 @@ impl Hunt {
         self.wrong
     }
 
-    /// The first thing that is not as it has to be is kept.
+    /// Keeps the first thing that is wrong.
     pub fn demand(&mut self, holds: bool, why: &'static str) {
         if !holds && self.wrong.is_none() {
             self.wrong = Some(why);
         }
     }
 
-    /// So many allocations, until one is refused. Whether one was.
+    /// Makes this number of allocations, until one is refused. Returns whether one was.
     fn burn(&mut self, allocations: u32) -> bool {
         for number in 0..allocations {
             if !is_given(self.alloc, number) {
@@ -100,28 +100,28 @@ impl Hunt {
         false
     }
 
-    /// So many allocations before the first step.
+    /// Makes this number of allocations before the first step.
     pub fn burn_before(&mut self, allocations: u32) {
         if self.burn(allocations) {
             self.met = Some(Met::Before);
         }
     }
 
-    /// Allocations behind the last step, where none was refused yet.
+    /// Makes allocations after the last step, if none was refused yet.
     pub fn burn_after(&mut self) {
         if self.is_on && self.met.is_none() && self.burn(BEHIND_ALL) {
             self.met = Some(Met::After);
         }
     }
 
-    /// This step was told that memory is refused. That is so once.
+    /// This step reported that memory is refused. Only one may.
     pub fn refused(&mut self, name: &'static str) {
         let is_first = self.met.is_none();
         self.demand(is_first, "memory is refused again");
         self.met = Some(Met::In(name));
     }
 
-    /// Whether this is the first answer that memory is refused.
+    /// Whether this is the first answer that reports that memory is refused.
     pub fn is_refusal(&self, reply: Option<Reply>) -> bool {
         self.is_on && self.met.is_none() && reply == Some(Reply::Refused(Refusal::NoMemory))
     }

@@ -1,9 +1,11 @@
-//! A machine to which one allocation is refused, wherever memory is wanted.
+//! A machine that is refused one allocation, at any place that needs memory.
 //!
-//! It reads a number, makes so many allocations, and then goes through steps: events of a book, openings, runs. A step
-//! in which an allocation is refused has to say so. Then everything has to be as it was before, and what follows as it
-//! is with ample memory. It prints in which step that was, or what is wrong. Without a number no allocation is to be
-//! refused: it prints what the events are answered.
+//! The program reads a number, makes that number of allocations, and then takes steps: events of a book, openings,
+//! runs. A step in which an allocation is refused has to say so. Then everything has to be as it was before. What
+//! follows has to be as with ample memory.
+//!
+//! The program prints the step in which the allocation was refused, or what is wrong. Without a number, no
+//! allocation is to be refused, and it prints the answers to the events.
 #![tactic(auto)]
 
 mod asking;
@@ -29,7 +31,7 @@ use std::sync::Wait;
 use tour::Plan;
 use walk::{Machine, config};
 
-/// The steps of the plan, and what follows where memory was refused in one of them.
+/// Takes the steps of the plan. If memory was refused in one of them, compares what follows.
 fn walk_by(hunt: &mut Hunt, machine: &mut Machine, plan: Plan) {
     if hunt.is_over() {
         return;
@@ -46,7 +48,7 @@ fn walk_by(hunt: &mut Hunt, machine: &mut Machine, plan: Plan) {
     }
 }
 
-/// The machine goes on as the other one, to which no memory is refused.
+/// The machine continues as the other one does, which is refused no memory.
 fn compare(hunt: &mut Hunt, machine: &mut Machine, other: &mut Machine) {
     let mut none = Hunt::none(hunt.alloc());
     other.follow(machine);
@@ -77,7 +79,7 @@ impl Others {
         })
     }
 
-    /// One after the other, until the refusal is met.
+    /// Opens and runs them one after the other, until the refusal is met.
     fn go<R: Wait>(self, rt: &R, hunt: &mut Hunt) {
         let Others { config, run, crew } = self;
         if !hunt.is_over() {
@@ -111,7 +113,7 @@ fn print_told<O: Write>(out: &mut O, told: &[Told]) -> io::Result<()> {
     Ok(())
 }
 
-/// Where the refusal was met, or what is wrong.
+/// Prints where the refusal was met, or what is wrong.
 fn print_met<O: Write>(out: &mut O, hunt: &Hunt) -> io::Result<()> {
     match (hunt.wrong(), hunt.met()) {
         (Some(why), Some(Met::In(name))) => writeln!(out, "wrong in {name}: {why}"),
@@ -123,7 +125,7 @@ fn print_met<O: Write>(out: &mut O, hunt: &Hunt) -> io::Result<()> {
     }
 }
 
-/// An allocation is to be refused, behind so many.
+/// Takes all steps. After this number of allocations, one is to be refused.
 fn hunt_behind<R: Wait, O: Write>(
     rt: &R,
     count: u32,
@@ -141,7 +143,7 @@ fn hunt_behind<R: Wait, O: Write>(
     print_met(out, &hunt)
 }
 
-/// With ample memory.
+/// Takes all steps with ample memory.
 fn walk_through<R: Wait, O: Write>(
     rt: &R,
     few: &mut Machine,
@@ -168,7 +170,7 @@ fn out_of_memory() -> io::Error {
     ErrorKind::OutOfMemory.into()
 }
 
-/// Sets everything up, and takes it down in the end.
+/// Sets everything up, and takes it down at the end.
 fn work<R: Wait, O: Write>(
     rt: &R,
     alloc: Global,
@@ -196,7 +198,7 @@ fn work<R: Wait, O: Write>(
     done
 }
 
-/// The number of standard input, if it has one.
+/// The number on standard input, if there is one.
 fn number<R: Input + AllocGlobal>(rt: &R) -> io::Result<Option<u32>> {
     let mut line = String::new(rt.alloc());
     rt.read_line(&mut line)?;
@@ -212,7 +214,7 @@ fn main(rt: HostRuntime) -> ExitCode {
     let Err(fault) = serve(&rt, &mut rt.stdout()) else {
         return ExitCode::SUCCESS;
     };
-    // The status tells of the failure even where its line can't be written.
+    // The status reports the failure even if its line can't be written.
     let _ = writeln!(rt.stderr(), "shortages: {fault}");
     ExitCode::FAILURE
 }

@@ -7,10 +7,10 @@ use machine::config::Config;
 use machine::refusal::Refusal;
 use marks::Marks;
 
-/// Frames of the marks that are opened.
+/// How many frames the opened marks have.
 const FRAMES: u32 = 100;
 
-/// The step is refused for this cause, which has to be want of memory.
+/// The step is refused for this cause, which has to be `NoMemory`.
 fn deny(hunt: &mut Hunt, name: &'static str, cause: Refusal) {
     hunt.demand(
         cause == Refusal::NoMemory,
@@ -19,7 +19,7 @@ fn deny(hunt: &mut Hunt, name: &'static str, cause: Refusal) {
     hunt.refused(name);
 }
 
-/// A book is opened, gives out five passes, and closes.
+/// Opens a book, takes five passes from it, and closes it.
 pub fn open(hunt: &mut Hunt, config: Config) {
     let opened = match Book::open(hunt.alloc(), config) {
         Ok(book) => Ok(book),
@@ -44,7 +44,7 @@ fn open_again(hunt: &Hunt) -> Result<Book, Refusal> {
     }
 }
 
-/// The room for passes is made at the first, and at the fifth.
+/// The book makes room for passes at the first pass, and at the fifth.
 fn give_passes(hunt: &mut Hunt, book: &mut Book) {
     if let Some(mut pass) = give(hunt, book, "first pass") {
         reserve(hunt, &mut pass, "reserve");
@@ -79,7 +79,7 @@ fn reserve(hunt: &mut Hunt, pass: &mut Pass, name: &'static str) {
     }
 }
 
-/// Marks are opened.
+/// Opens marks.
 pub fn open_marks(hunt: &mut Hunt) {
     let opened = match Marks::open(hunt.alloc(), FRAMES) {
         Ok(opened) => Some(opened),

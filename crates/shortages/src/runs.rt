@@ -7,11 +7,11 @@ use machine::refusal::Refusal;
 use scripts::{Mode, Script, read};
 use std::alloc::{AllocError, Global};
 
-/// Two pages and a group have room: the third page takes the first one's frame.
+/// There is room for two pages and a group. The third page takes the frame of the first.
 const SCRIPT: &str =
     "frames 2\nswap 2\nfile f 1\ntrace 100\ngroup /a\ntask 1 /a\n1 write 0 0 7\n1 write 1 0 8\n1 write 2 0 9\n1 read 0 0\n1 fork 2\n1 fread f 0 0\ncat /a memory.current\nrmdir /a\n";
 
-/// The pages' bytes, that of the file, the two frames in use, and that a group with tasks stays.
+/// The bytes of the pages and of the file, the two frames in use, and the answer that a group with tasks stays.
 const ANSWERS: &str = "1 7\n1 0\n8192\nerror EBUSY\n";
 
 /// What a run is given.
@@ -22,7 +22,7 @@ pub struct Run {
     schedule: Schedule,
 }
 
-/// What came of a run.
+/// The result of a run.
 #[derive(Drop)]
 pub struct Ran {
     answers: Vec<Reply>,
@@ -33,7 +33,7 @@ fn is_refused(reply: &Reply) -> bool {
     matches!(reply.answer, Answer::Word(Word::Refused(Refusal::NoMemory)))
 }
 
-/// What is printed for answers.
+/// The text that is printed for these answers.
 fn text(alloc: Global, answers: &[Reply]) -> Result<String, AllocError> {
     let mut text = String::new(alloc);
     for reply in answers {
@@ -81,7 +81,7 @@ impl Run {
 }
 
 impl Ran {
-    /// The answer at which memory was refused.
+    /// The index of the answer that reports that memory was refused.
     fn refused_at(&self) -> Option<usize> {
         for (at, reply) in self.answers.iter().enumerate() {
             if is_refused(reply) {
@@ -103,7 +103,7 @@ impl Ran {
         }
     }
 
-    /// The answers are those with ample memory; or the beginning of them, where memory was refused.
+    /// The answers have to be those with ample memory, or their beginning if memory was refused.
     pub fn compare(&self, hunt: &mut Hunt) {
         let known = match self.refused_at() {
             Some(at) => self.answers.get(..at),
@@ -121,7 +121,7 @@ impl Ran {
     }
 }
 
-/// With ample memory it is run to its end.
+/// Runs it again, with ample memory, to its end.
 pub fn run_again(hunt: &mut Hunt) {
     let Some(run) = Run::new(hunt.alloc()) else {
         hunt.demand(false, "there is nothing to run");

@@ -9,13 +9,13 @@ use machine::text::Text;
 use std::alloc::Global;
 use turns::automaton::spend;
 
-/// The paths that are looked for.
+/// The paths that are looked up.
 const PATHS: [&str; 6] = ["/", "/a", "/b", "/c", "/d", "/e"];
 
-/// So many groups are looked at, whether they are there or not.
+/// The number of groups that are looked at, whether they exist or not.
 const GROUPS: usize = 10;
 
-/// What is shown of one group: its files, where it is there.
+/// What is shown of one group: its files, if it exists.
 #[derive(Clone, Copy, PartialEq, Eq)]
 struct GroupShown {
     files: [Option<Shown>; 10],
@@ -93,7 +93,7 @@ pub fn look(book: &mut Book, pass: &mut Pass) -> Shows {
     Shows { groups, numbers }
 }
 
-/// Whether each path that is looked for by the pass is that of the group that was seen.
+/// Whether the pass finds the group that was seen for each path.
 pub fn finds_the_same(alloc: Global, book: &Book, pass: &mut Pass, seen: &Shows) -> bool {
     for (number, path) in seen.numbers.iter().zip(PATHS.iter()) {
         let Ok(string) = String::from_str(alloc, path) else {

@@ -1,9 +1,9 @@
-//! What is asked of a book, step by step, as plain data: so it can be asked again.
+//! What a book is asked, step by step, as plain data: so it can be asked again.
 
 use machine::event::{Cause, Op, Place, Query, Setting};
 use machine::id::{GroupId, TaskId};
 
-/// How a transfer ends that a step begins, and what its end is called.
+/// How the transfer of a step ends, and the name of its end.
 #[derive(Clone, Copy)]
 pub enum End {
     /// The device's block is read or written.
@@ -31,19 +31,19 @@ pub enum TaskChange {
     Attach { task: TaskId, group: GroupId },
 }
 
-/// An event, but for the ends of transfers.
+/// An event other than the end of a transfer.
 #[derive(Clone, Copy)]
 pub enum Ask {
     Group(GroupChange),
     Task(TaskChange),
-    /// By a task, to the first byte of a page.
+    /// An access of a task to the first byte of a page.
     Access(TaskId, Place, Op, End),
     Relieve(Cause, End),
     ReclaimOne(GroupId, End),
     MergeMarks { word: u32, bits: u64 },
 }
 
-/// An event, by the name that it is told by.
+/// An event, with the name that reports give it.
 #[derive(Clone, Copy)]
 pub struct Step {
     pub name: &'static str,
@@ -64,7 +64,7 @@ pub fn of_task(name: &'static str, change: TaskChange) -> Step {
     }
 }
 
-/// The first byte of a task's virtual page. Where the page has to be read in, it arrives.
+/// An access to the first byte of a task's virtual page. If the page has to be read in, it arrives.
 pub fn touch(name: &'static str, task: u32, page: u32, op: Op) -> Step {
     let place = Place::Virtual { page, offset: 0 };
     Step {
@@ -73,7 +73,7 @@ pub fn touch(name: &'static str, task: u32, page: u32, op: Op) -> Step {
     }
 }
 
-/// The first byte of a page of the file, for task 2.
+/// An access of task 2 to the first byte of a page of the file.
 pub fn reach(name: &'static str, page: u32, op: Op, end: End) -> Step {
     let place = Place::File {
         file: 0,
@@ -86,7 +86,7 @@ pub fn reach(name: &'static str, page: u32, op: Op, end: End) -> Step {
     }
 }
 
-/// A page is taken from any group.
+/// Reclaims a page of any group.
 pub fn reclaim_one(end: End) -> Step {
     Step {
         name: "reclaim one",
@@ -94,7 +94,7 @@ pub fn reclaim_one(end: End) -> Step {
     }
 }
 
-/// Room is wanted.
+/// Asks for room.
 pub fn relieve(name: &'static str, cause: Cause) -> Step {
     Step {
         name,

@@ -1,5 +1,5 @@
-//! The steps of the walk: how the machine is set up, each event in a state in which those that may want memory do, and
-//! what is asked in the end.
+//! The steps of the walk: how the machine is set up, each event, and what is asked at the end. The events that may
+//! need memory are asked in a state in which they do.
 
 use crate::step::{
     Ask, End, GroupChange, Step, TaskChange, fork, merge, mkdir, of_group, of_task, reach,
@@ -14,7 +14,7 @@ use std::alloc::{AllocError, Global};
 /// A machine, and what it is asked.
 #[derive(Clone, Copy, PartialEq, Eq)]
 pub enum Plan {
-    /// Four groups, the root among them, so that what is kept by group is just full. Each event is asked.
+    /// Four groups with the root, so that what is kept by group is just full. Each event is asked.
     Few,
     /// Nine groups, so that the table of their paths is just full too.
     Many,
@@ -29,7 +29,7 @@ impl Plan {
         }
     }
 
-    /// What it is asked then.
+    /// What it is asked after that.
     pub fn steps(self, alloc: Global) -> Result<Vec<Step>, AllocError> {
         match self {
             Plan::Few => {
@@ -82,7 +82,7 @@ fn many() -> [Step; 9] {
     ]
 }
 
-/// What may want memory. The numbers of the tasks are beyond all tables.
+/// Events that may need memory. The numbers of the tasks are beyond all tables.
 fn wanting() -> [Step; 6] {
     [
         mkdir("mkdir", "/d"),
@@ -99,7 +99,7 @@ fn wanting() -> [Step; 6] {
     ]
 }
 
-/// What finds or makes a page without a read of the device, and marks of pages that were used.
+/// Accesses that find or make a page without a read of the device, and marks of pages that were used.
 fn touching() -> [Step; 11] {
     [
         touch("read what came from swap", 1, 0, Op::Read),
@@ -121,7 +121,7 @@ fn touching() -> [Step; 11] {
     ]
 }
 
-/// What is written to groups, and shown of them.
+/// Changes of groups, and what is shown of them.
 fn grouped() -> [Step; 10] {
     let max = Setting::Max(Amount::Pages(5));
     let min = Setting::Guard(Guard::Min, Amount::Pages(1));
@@ -153,7 +153,7 @@ fn grouped() -> [Step; 10] {
     ]
 }
 
-/// Pages are taken, a task is killed, another ends.
+/// Pages are evicted, a task is killed, another ends.
 fn leaving() -> [Step; 12] {
     let lower = Cause::Lower(GroupId(1));
     [
@@ -178,7 +178,8 @@ fn leaving() -> [Step; 12] {
     ]
 }
 
-/// What every machine is asked in the end: a further group and a further task, a byte of each page, and pages that leave.
+/// What every machine is asked at the end: another group, another task, a byte of each page, and evictions of
+/// pages.
 pub fn end(alloc: Global) -> Result<Vec<Step>, AllocError> {
     let mut steps = Vec::from_array(
         alloc,

@@ -1,4 +1,4 @@
-//! A machine that goes through steps: each is asked, and asked again where memory is refused for it.
+//! A machine that takes steps: each is asked, and asked again if memory is refused for it.
 
 use crate::asking::said;
 use crate::hunt::{Hunt, Told};
@@ -18,12 +18,12 @@ const ROOM: usize = 200;
 /// Room in a pass, and in a trace, for all steps.
 const ALL_ROOM: u32 = 20_000;
 
-/// So many answers are kept.
+/// How many answers are kept.
 const ANSWERS: usize = 400;
 
-/// A book, with the pass by which it is asked, and its device.
+/// A book, with the pass that asks it, and its device.
 ///
-/// It must be spent, by [`Machine::close`].
+/// [`Machine::close`] must spend it.
 pub struct Machine {
     pub(crate) book: Book,
     pub(crate) pass: Pass,
@@ -33,11 +33,11 @@ pub struct Machine {
     pub(crate) path: Option<Text>,
     /// What was answered since the machine was set up.
     pub(crate) told: Vec<Told>,
-    /// It goes no further where so much was answered.
+    /// It takes no more steps after this number of answers.
     last: usize,
 }
 
-/// What a machine is made of, all that wants memory but the book.
+/// What a machine is made of: all that needs memory, except the book.
 #[derive(Drop)]
 struct Parts {
     config: Config,
@@ -130,7 +130,7 @@ impl Machine {
         }
     }
 
-    /// One step after the other.
+    /// Takes one step after the other.
     pub fn take_all(&mut self, hunt: &mut Hunt, steps: &[Step]) {
         for step in steps {
             self.take(hunt, *step);
@@ -160,7 +160,7 @@ impl Machine {
         self.last = other.told.len();
     }
 
-    /// The steps of its plan, until the refusal is met, or it has gone far enough.
+    /// Takes the steps of its plan, until the refusal is met, or it has gone far enough.
     pub fn walk(&mut self, hunt: &mut Hunt) {
         for at in 0..self.steps.len() {
             if hunt.is_over() || self.told.len() >= self.last {
@@ -173,7 +173,7 @@ impl Machine {
         }
     }
 
-    /// What every machine is asked in the end.
+    /// Asks what every machine is asked at the end.
     pub fn end(&mut self, hunt: &mut Hunt) {
         match end(hunt.alloc()) {
             Ok(steps) => self.take_all(hunt, &steps),
@@ -181,7 +181,7 @@ impl Machine {
         }
     }
 
-    /// One step. Where memory is refused, all is as it was before, and the event is asked once more.
+    /// Takes one step. If memory is refused, everything has to be as it was before, and the event is asked again.
     pub fn take(&mut self, hunt: &mut Hunt, step: Step) {
         if self.pass.reserve(ROOM).is_err() {
             hunt.demand(false, "a pass has no room");
@@ -201,7 +201,7 @@ impl Machine {
         }
     }
 
-    /// All is as it was before.
+    /// Everything has to be as it was before.
     fn compare(&mut self, hunt: &mut Hunt, before: &Shows) {
         let now = look(&mut self.book, &mut self.pass);
         hunt.demand(now == *before, "a group shows something else");

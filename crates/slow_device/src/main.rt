@@ -1,5 +1,5 @@
-//! Runs a script as `memcgrun` does, over a device in memory each of whose calls sleeps first: `bench/live` takes its
-//! time.
+//! Runs a script as `memcgrun` does, over a device in memory that sleeps before each call. `bench/live` measures
+//! its time.
 //!
 //! `slow_device schedule MICROSECONDS FILE` and `slow_device run MICROSECONDS FILE`.
 #![tactic(auto)]
@@ -33,7 +33,7 @@ fn out_of_memory() -> Fault {
     Fault::Unreadable(ErrorKind::OutOfMemory.into())
 }
 
-/// One turn after another.
+/// Runs a script one turn after another.
 fn schedule<C: Clock, O: Write>(
     clock: &C,
     alloc: Global,
@@ -76,7 +76,7 @@ fn schedule<C: Clock, O: Write>(
     }
 }
 
-/// On threads.
+/// Runs a script on threads.
 fn run_new<R: Clock + Threads + Wait + Sync, O: Write>(
     rt: &R,
     alloc: Global,
@@ -114,7 +114,7 @@ fn run<R: Clock + Threads + Wait + Sync, O: Write>(
     }
 }
 
-/// What the words ask for.
+/// Does what the arguments ask for.
 fn serve<R: Clock + Env + Files + Threads + Wait + Sync + AllocGlobal, O: Write, E: Write>(
     rt: &R,
     out: &mut O,
@@ -150,7 +150,7 @@ fn main(rt: HostRuntime) -> ExitCode {
     match serve(&rt, &mut rt.stdout(), &mut rt.stderr()) {
         Ok(status) => ExitCode::from(status),
         Err(error) => {
-            // The status tells of the failure even where its line can't be written.
+            // The status reports the failure even if its line can't be written.
             let _ = writeln!(rt.stderr(), "slow_device: {error}");
             ExitCode::FAILURE
         }

@@ -7,7 +7,7 @@ use std::sync::Wait;
 use std::thread;
 use std::time::{Clock, Duration};
 
-/// A device each of whose calls sleeps before it is made; for no time where that is none.
+/// A device that sleeps before each call, unless the time is zero.
 #[derive(Drop)]
 pub struct Slow<'a, C: Clock, D: Drop> {
     clock: &'a C,
@@ -59,7 +59,7 @@ impl<'a, C: Clock, D: BlockDevice + Drop> BlockDevice for Slow<'a, C, D> {
     }
 }
 
-// The sleeps of calls that overlap, overlap.
+// If calls overlap, their sleeps overlap.
 impl<'a, C: Clock, D: SharedDevice + Drop> SharedDevice for Slow<'a, C, D> {
     ghost extent = { λ d. D.extent d.device };
 
