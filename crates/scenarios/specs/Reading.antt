@@ -1,5 +1,5 @@
 -- What has been read of a line. No public clause cites it.
-use Rattle.std.specs.Prelude.{◌≡◌, ℕ, ◌+◌, Bool, true, false, ◌&&◌, ◌||◌, not, ◌==◌, List, [], ◌∷◌, ◌++◌, encode_utf8, Option, Some, None, Result, Ok, Err, if◌then◌else◌}
+use Rattle.std.specs.Prelude.{ℕ, ◌+◌, Bool, true, false, ◌&&◌, ◌||◌, not, ◌==◌, List, [], ◌∷◌, ◌++◌, encode_utf8, Option, Some, None, Result, Ok, Err, if◌then◌else◌}
 use Rattle.std.specs.String.{string_bytes}
 use Rattle.scripts.specs.Words.{is_blank}
 use Rattle.scenarios.specs.declared.words.WordCause.TheVariants as cause
@@ -7,7 +7,7 @@ use Rattle.scenarios.specs.declared.words.WordFault.{WordFault}
 use Rattle.scenarios.specs.declared.words.Part.{Part}
 use Rattle.scenarios.specs.declared.words.Reader.{Reader}
 use Rattle.scenarios.specs.Pieces.{is_brace}
-use Rattle.scenarios.specs.Words.{TextWord, is_quote, turned, fault_at, closed_word, first_word}
+use Rattle.scenarios.specs.Words.{TextWord, is_quote, turned, closed_word}
 
 -- a word that is being read
 pub record PartRead : Type 0 where

@@ -1,5 +1,5 @@
 -- The words of a line.
-use Rattle.std.specs.Prelude.{◌≡◌, ℕ, ◌+◌, Bool, true, false, ◌&&◌, ◌||◌, not, ◌==◌, List, [], ◌∷◌, ◌++◌, map, filter, take_while, encode_utf8_all, Option, Some, None, Result, Ok, Err, if◌then◌else◌}
+use Rattle.std.specs.Prelude.{◌≡◌, ℕ, ◌+◌, Bool, true, false, ◌&&◌, not, ◌==◌, List, [], ◌∷◌, map, filter, take_while, encode_utf8_all, Option, Some, None, Result, Ok, Err, if◌then◌else◌}
 use Rattle.std.specs.List.{slice_split, list_any}
 use Rattle.scripts.specs.Words.{is_blank}
 use Rattle.scenarios.specs.declared.pieces.Kind.TheVariants as kind
