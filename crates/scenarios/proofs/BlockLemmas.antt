@@ -1,19 +1,18 @@
 -- Lines that are kept one by one are the lines of their tree.
-use Rattle.std.proofs.Common.{◌≡◌, ℕ, ◌+◌, ◌-◌, ◌<◌, ◌≤◌, Bool, true, false, List, [], ◌∷◌, ◌++◌, length, map, take, set, get_or, Option, Some, None, Result, Ok, Err, suc, append_assoc, append-nil, refl, sym, ap, subst, ◌∙◌, arith}
+use Rattle.std.proofs.Common.{◌≡◌, ℕ, ◌+◌, ◌-◌, ◌<◌, ◌≤◌, List, [], ◌∷◌, ◌++◌, length, map, take, set, get_or, Option, None, Result, Ok, Err, append_assoc, append-nil, refl, sym, ap, subst, ◌∙◌, arith}
 use Rattle.std.specs.Prelude.{reverse}
 use Rattle.std.specs.Str.Lines.{lines}
-use Rattle.std.proofs.lemmas.List.{length-append, length-set, map-append, reverse-append, take-append-le}
+use Rattle.std.proofs.lemmas.List.{length-append, length-set, map-append, reverse-append}
 use Rattle.std.proofs.Math.Seq.{set-append_seam, get_or-append_seam, take-append_seam}
 use Rattle.scenarios.specs.declared.fault.Fault.{Fault}
 use Rattle.scenarios.specs.declared.fault.ReadError.{ReadError}
-use Rattle.scenarios.specs.declared.fault.ReadError.TheVariants as error
 use Rattle.scenarios.specs.declared.lines.LineKind.{LineKind}
 use Rattle.scenarios.specs.declared.lines.LineKind.TheVariants as line
 use Rattle.scenarios.specs.declared.scenario.Opened.{Opened}
 use Rattle.scenarios.specs.Words.{TextWord}
-use Rattle.scenarios.specs.Lines.{kind_of, WordLine, TextLine, Tree, text_line, first_tree, other_trees, grown, trees_of, tree_of, flat}
+use Rattle.scenarios.specs.Lines.{kind_of, WordLine, TextLine, Tree, text_line, first_tree, other_trees, grown, trees_of, flat}
 use Rattle.scenarios.specs.Lines.{Nothing, Line, Block}
-use Rattle.scenarios.specs.Scenario.{Before, Reads, at_start, first_column, end_fault, place_fault, with_block, behind, line_words, onto_lines, unless_fault, with_words, with_line, lines_from, lines_of, flat_lines, scenario_of}
+use Rattle.scenarios.specs.Scenario.{Before, Reads, end_fault, place_fault, with_block, behind, line_words, onto_lines, unless_fault, with_words, with_line, lines_from}
 use Rattle.scenarios.specs.Building.{places_of, AreOpen, no_line, closed, first_closed, lines_behind, built, all_built}
 
 abbrev Lines : Type 0

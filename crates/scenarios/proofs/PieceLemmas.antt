@@ -1,7 +1,7 @@
 -- A word's pieces, brace by brace.
 use Rattle.std.proofs.Common.{◌≡◌, ℕ, ◌+◌, ◌-◌, ◌<◌, ◌≤◌, Bool, true, false, cond, ltb, List, [], ◌∷◌, ◌++◌, length, take, drop, Option, Some, None, suc, get_or, append_assoc, append-nil, refl, sym, ap, ◌∙◌, arith}
 use Rattle.std.specs.Prelude.{position}
-use Rattle.std.specs.List.{position_or_len, All}
+use Rattle.std.specs.List.{position_or_len}
 use Rattle.std.specs.Str.{IsUtf8, IsCharBoundary}
 use Rattle.std.proofs.lemmas.Bool.{ltb-false}
 use Rattle.std.proofs.lemmas.Bool.Decides.{nat_tests}
@@ -10,7 +10,7 @@ use Rattle.std.proofs.lemmas.List.Sums.{fails_before_first}
 use Rattle.std.proofs.Math.ListN.{length-take}
 use Rattle.std.proofs.lemmas.List.Quantifiers.{position-Some}
 use Rattle.std.proofs.lemmas.Str.{IsCharBoundary-before_ascii, IsCharBoundary-after_ascii}
-use Rattle.scenarios.specs.Pieces.{TextPiece, opens, is_brace, some_text, piece_of, fits, onto_pieces, ended, pieces_from, pieces_of}
+use Rattle.scenarios.specs.Pieces.{TextPiece, opens, is_brace, piece_of, fits, onto_pieces, ended, pieces_from, pieces_of}
 
 brace_is_ascii : (b : ℕ) → is_brace b ≡ true → b < 128
 brace_is_ascii b h = grind (arith, nat_tests)

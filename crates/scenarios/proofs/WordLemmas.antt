@@ -1,5 +1,5 @@
 -- What is read of a line, character by character, is its words.
-use Rattle.std.proofs.Common.{◌≡◌, ℕ, ◌+◌, ◌<◌, ◌≤◌, Bool, true, false, cond, eqb, List, [], ◌∷◌, ◌++◌, length, map, filter, Option, Some, None, Result, Ok, Err, append_assoc, append-nil, refl, sym, ap, subst, ◌∙◌, arith}
+use Rattle.std.proofs.Common.{◌≡◌, ℕ, ◌+◌, ◌≤◌, Bool, true, false, cond, eqb, List, [], ◌∷◌, ◌++◌, length, map, filter, Option, Some, None, Result, Ok, Err, append_assoc, append-nil, refl, sym, ap, subst, ◌∙◌, arith}
 use Rattle.std.specs.Prelude.{◌&&◌, ◌||◌, not, take_while, encode_utf8, encode_utf8_all}
 use Rattle.std.specs.List.{slice_split, list_any, All}
 use Rattle.std.proofs.lemmas.Bool.Decides.{nat_tests}
@@ -15,8 +15,8 @@ use Rattle.scenarios.specs.declared.words.WordFault.{WordFault}
 use Rattle.scenarios.specs.declared.words.WordError.{WordError}
 use Rattle.scenarios.specs.declared.words.WordError.TheVariants as error
 use Rattle.scenarios.specs.Pieces.{is_brace}
-use Rattle.scenarios.specs.Words.{TextWord, Mark, is_quote, turned, marks, is_comment, is_gap, is_there, parts_of, column_of, is_quoted, open_behind, has_brace, text_of, fault_at, closed_word, word_of, before_words, first_word, words_in, words_of}
-use Rattle.scenarios.specs.Reading.{PartRead, LineRead, Gives, longer, started, with_part, with_word, words_with, part_ended, ended_in, one_on, with_character, words_at_end, words_read, read_on, rest_read, at_start}
+use Rattle.scenarios.specs.Words.{TextWord, Mark, is_quote, turned, marks, is_comment, is_gap, is_there, column_of, is_quoted, open_behind, has_brace, text_of, fault_at, closed_word, word_of, before_words, first_word, words_in, words_of, Gives}
+use Rattle.scenarios.specs.Reading.{PartRead, LineRead, longer, started, with_part, with_word, words_with, part_ended, ended_in, one_on, with_character, words_at_end, words_read, read_on, rest_read, at_start}
 
 -- ---- one character more in a part
 

@@ -1,5 +1,5 @@
 -- Holes of words, filled.
-use Rattle.std.specs.Prelude.{◌≡◌, ℕ, ◌+◌, List, [], ◌∷◌, ◌++◌, Option, Some, None, Result, Ok, Err, String, if◌then◌else◌}
+use Rattle.std.specs.Prelude.{◌≡◌, ℕ, ◌+◌, List, [], ◌∷◌, ◌++◌, map, Option, Some, None, Result, Ok, Err, String, if◌then◌else◌}
 use Rattle.std.specs.Str.{bytes_eq}
 use Rattle.std.specs.Global.{Global}
 use Rattle.std.specs.String.{string_bytes}
@@ -45,3 +45,6 @@ abbrev pub Fills : Result (String Global) FillError → Result (List ℕ) ℕ �
 Fills (Ok text) expected = expected ≡ Ok (string_bytes text)
 Fills (Err error.Memory) expected = Unit {0}
 Fills (Err (error.Unknown place)) expected = expected ≡ Err place
+
+abbrev pub names_of : List NamedText → List (List ℕ)
+names_of values = map (λ v. v.name) values

@@ -1,5 +1,5 @@
 -- The lines of a scenario, and the tree that their blocks make.
-use Rattle.std.specs.Prelude.{◌≡◌, ℕ, ◌+◌, Bool, true, false, ◌||◌, List, [], ◌∷◌, ◌++◌, length, codes, map, Option, Some, None, if◌then◌else◌}
+use Rattle.std.specs.Prelude.{◌≡◌, ℕ, Bool, true, false, ◌||◌, List, [], ◌∷◌, ◌++◌, length, codes, map, Option, Some, None, if◌then◌else◌}
 use Rattle.std.specs.Str.{bytes_eq}
 use Rattle.scenarios.specs.declared.lines.LineKind.{LineKind}
 use Rattle.scenarios.specs.declared.lines.LineKind.TheVariants as line

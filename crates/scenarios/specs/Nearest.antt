@@ -1,5 +1,5 @@
 -- The nearest of known words.
-use Rattle.std.specs.Prelude.{◌≡◌, ℕ, ◌*◌, ◌<◌, ◌≤◌, Bool, true, false, ◌&&◌, List, [], map, length, Option, Some, None, nat_lt, nat_le, slice_index_or, if◌then◌else◌}
+use Rattle.std.specs.Prelude.{◌≡◌, ℕ, ◌*◌, ◌<◌, ◌≤◌, Bool, ◌&&◌, List, [], ◌++◌, map, length, codes, Option, Some, None, nat_lt, nat_le, slice_index_or, if◌then◌else◌}
 use Rattle.std.specs.Str.{chars}
 use Rattle.strsim.specs.Edits.{osa_table}
 use denote.Ref.{Bor}
@@ -46,3 +46,13 @@ abbrev pub nearer : Option (ℕ × ℕ) → ℕ → Option ℕ → Option (ℕ �
 nearer best place None = best
 nearer None place (Some count) = Some (place, count)
 nearer (Some best) place (Some count) = if nat_lt count best.1 then Some (place, count) else Some best
+
+-- ---- what is said of a name that isn't known
+
+abbrev pub meant_text : Option (List ℕ) → List ℕ
+meant_text None = []
+meant_text (Some known) = codes "; did you mean \"" ++ (known ++ codes "\"?")
+
+-- no such word, group, task, file or name, and which may be meant
+abbrev pub unknown_text : List ℕ → List ℕ → Option (List ℕ) → List ℕ
+unknown_text kind name meant = codes "no such " ++ (kind ++ (codes " \"" ++ (name ++ (codes "\"" ++ meant_text meant))))

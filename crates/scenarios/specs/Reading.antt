@@ -1,15 +1,13 @@
 -- What has been read of a line. No public clause cites it.
-use Rattle.std.specs.Prelude.{◌≡◌, ℕ, ◌+◌, Bool, true, false, ◌&&◌, ◌||◌, not, ◌==◌, List, [], ◌∷◌, ◌++◌, encode_utf8, Option, Some, None, Result, Ok, Err, if◌then◌else◌}
+use Rattle.std.specs.Prelude.{ℕ, ◌+◌, Bool, true, false, ◌&&◌, ◌||◌, not, ◌==◌, List, [], ◌∷◌, ◌++◌, encode_utf8, Option, Some, None, Result, Ok, Err, if◌then◌else◌}
 use Rattle.std.specs.String.{string_bytes}
 use Rattle.scripts.specs.Words.{is_blank}
 use Rattle.scenarios.specs.declared.words.WordCause.TheVariants as cause
 use Rattle.scenarios.specs.declared.words.WordFault.{WordFault}
-use Rattle.scenarios.specs.declared.words.WordError.{WordError}
-use Rattle.scenarios.specs.declared.words.WordError.TheVariants as error
 use Rattle.scenarios.specs.declared.words.Part.{Part}
 use Rattle.scenarios.specs.declared.words.Reader.{Reader}
 use Rattle.scenarios.specs.Pieces.{is_brace}
-use Rattle.scenarios.specs.Words.{TextWord, is_quote, turned, fault_at, closed_word, first_word}
+use Rattle.scenarios.specs.Words.{TextWord, is_quote, turned, closed_word}
 
 -- a word that is being read
 pub record PartRead : Type 0 where
@@ -34,12 +32,6 @@ pub record LineRead : Type 0 where
 
 abbrev pub line_read : Reader → LineRead
 line_read r = record { before = r.before; inside = r.inside; part = option_part r.part; words = r.words.items }
-
--- what a function returned is the expected, unless memory ran out
-abbrev pub Gives : {T : Type 0} {U : Type 0} → (T → U) → Result T WordError → Result U WordFault → Type 0
-Gives shown (Ok x) expected = expected ≡ Ok (shown x)
-Gives shown (Err error.Memory) expected = Unit {0}
-Gives shown (Err (error.Fault f)) expected = expected ≡ Err f
 
 -- a character at the end of a part, or a new part
 abbrev pub longer : PartRead → Bool → ℕ → PartRead

@@ -1,5 +1,5 @@
 -- What the text of a scenario says, or its first fault.
-use Rattle.std.specs.Prelude.{◌≡◌, ℕ, ◌+◌, ◌-◌, Bool, true, false, ◌||◌, not, List, [], ◌∷◌, ◌++◌, length, take, count_by, nat_lt, nat_le, Option, Some, None, Result, Ok, Err, if◌then◌else◌}
+use Rattle.std.specs.Prelude.{◌≡◌, ℕ, ◌+◌, ◌-◌, Bool, true, false, ◌||◌, List, [], ◌∷◌, ◌++◌, length, take, count_by, nat_lt, nat_le, Option, Some, None, Result, Ok, Err, if◌then◌else◌}
 use Rattle.std.specs.Str.{chars, is_utf8}
 use Rattle.std.specs.Str.Lines.{lines}
 use Rattle.std.specs.Str.Lossy.{utf8_valid_len}

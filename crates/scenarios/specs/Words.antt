@@ -1,10 +1,12 @@
 -- The words of a line.
-use Rattle.std.specs.Prelude.{ℕ, ◌+◌, Bool, true, false, ◌&&◌, ◌||◌, not, ◌==◌, List, [], ◌∷◌, ◌++◌, map, filter, take_while, encode_utf8_all, Option, Some, None, Result, Ok, Err, if◌then◌else◌}
+use Rattle.std.specs.Prelude.{◌≡◌, ℕ, ◌+◌, Bool, true, false, ◌&&◌, not, ◌==◌, List, [], ◌∷◌, map, filter, take_while, encode_utf8_all, Option, Some, None, Result, Ok, Err, if◌then◌else◌}
 use Rattle.std.specs.List.{slice_split, list_any}
 use Rattle.scripts.specs.Words.{is_blank}
 use Rattle.scenarios.specs.declared.pieces.Kind.TheVariants as kind
 use Rattle.scenarios.specs.declared.words.WordCause.{WordCause}
 use Rattle.scenarios.specs.declared.words.WordCause.TheVariants as cause
+use Rattle.scenarios.specs.declared.words.WordError.{WordError}
+use Rattle.scenarios.specs.declared.words.WordError.TheVariants as error
 use Rattle.scenarios.specs.declared.words.WordFault.{WordFault}
 use Rattle.scenarios.specs.Pieces.{TextPiece, is_brace, pieces_of}
 
@@ -103,3 +105,9 @@ words_in (part ∷ parts) = first_word (word_of part) (words_in parts)
 -- the words of a line of these characters, or the first fault
 abbrev pub words_of : List ℕ → Result (List TextWord) WordFault
 words_of line = words_in (parts_of line)
+
+-- a function returned the expected, unless memory ran out
+abbrev pub Gives : {T : Type 0} {U : Type 0} → (T → U) → Result T WordError → Result U WordFault → Type 0
+Gives shown (Ok x) expected = expected ≡ Ok (shown x)
+Gives shown (Err error.Memory) expected = Unit {0}
+Gives shown (Err (error.Fault f)) expected = expected ≡ Err f

@@ -1,11 +1,13 @@
 //! Holes of words, filled by the values of their names.
 
-ghost use Rattle.std.specs.Prelude.{◌≡◌};
+ghost use Rattle.std.specs.Prelude.{◌≡◌, IfOk};
 ghost use Rattle.std.specs.Option.{option_map};
 ghost use Rattle.std.specs.String.{string_bytes};
 ghost use Rattle.scenarios.specs.declared.holes.FillError.TheVariants.{Memory};
-ghost use Rattle.scenarios.specs.Holes.{NamedText, value_of, piece_text, filled, Fills};
+ghost use Rattle.scenarios.specs.Holes.{NamedText, value_of, piece_text, filled, Fills, names_of};
+ghost use Rattle.scenarios.specs.Nearest.{IsNearest};
 
+use crate::nearest::nearest;
 use crate::pieces::{Kind, Piece};
 use std::alloc::{AllocError, Global};
 use std::marker::Model;
@@ -96,4 +98,19 @@ pub fn fill(alloc: Global, pieces: &[Piece], values: &[Named]) -> Result<String,
         }
     }
     Ok(text)
+}
+
+/// The place of the value whose name is nearest to one that has no value, if one is near.
+pub fn nearest_name(
+    alloc: Global,
+    name: &str,
+    values: &[Named],
+) -> Result<Option<usize>, AllocError>
+    ensures { IfOk result (IsNearest name.now (names_of values.now)) }
+{
+    let mut names = Vec::new(alloc);
+    for value in values {
+        names.push(value.name())?;
+    }
+    nearest(alloc, name, names.as_slice())
 }

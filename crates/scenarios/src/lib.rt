@@ -16,4 +16,5 @@ pub mod size_faults;
 pub mod sizes;
 #[cfg(test)]
 mod tests;
+pub mod unknown;
 pub mod words;

@@ -110,7 +110,7 @@ impl Model for Line {
 
 impl Line {
     /// A line of this number, in whose block there is nothing yet.
-    pub fn new(number: usize, words: Vec<Word>) -> Line
+    pub(crate) fn new(number: usize, words: Vec<Word>) -> Line
         ensures { result ≡ text_line (record { number = number; words = words.items }) 0 }
     {
         let kind = kind_of(words.as_slice());
@@ -149,7 +149,7 @@ impl Line {
     }
 
     /// So many of the next lines are in its block.
-    pub fn close(&mut self, inside: usize)
+    pub(crate) fn close(&mut self, inside: usize)
         ensures { self.new ≡ record self.old { inside = inside } }
     {
         self.inside = inside;

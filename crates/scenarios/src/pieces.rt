@@ -1,6 +1,6 @@
 //! The pieces of a word: what is taken as it is, and holes.
 
-ghost use Rattle.std.specs.Prelude.{◌≡◌, ◌<◌, ◌++◌, Some, length, position, IfOk, OnOk};
+ghost use Rattle.std.specs.Prelude.{◌≡◌, ◌<◌, ◌++◌, Some, position, IfOk, OnOk};
 ghost use Rattle.std.specs.Option.{option_map};
 ghost use Rattle.std.specs.String.{string_bytes};
 ghost use Rattle.scenarios.specs.Pieces.{TextPiece, is_brace, fits, piece_of, some_text, pieces_of};
@@ -35,7 +35,7 @@ impl Model for Piece {
 
 impl Piece {
     /// A piece with this text.
-    pub fn new(kind: Kind, text: String) -> Piece
+    pub(crate) fn new(kind: Kind, text: String) -> Piece
         ensures kind { result.kind ≡ kind }
         ensures text { result.text ≡ string_bytes text }
     {

@@ -1,8 +1,7 @@
 //! Scenarios: their lines, and the blocks that these form.
 
-ghost use Rattle.std.specs.Prelude.{◌≡◌, ℕ, ◌+◌, ◌-◌, ◌<◌, ◌^◌, ◌∷◌, ◌++◌, [], length, take, count_by, Some, None, true, false, List, Ok, OnOk, MatchResult};
+ghost use Rattle.std.specs.Prelude.{◌≡◌, ℕ, ◌+◌, ◌-◌, ◌<◌, ◌∷◌, ◌++◌, [], length, take, count_by, Some, None, true, false, List, Ok, OnOk, MatchResult};
 ghost use Rattle.std.specs.Str.{is_utf8};
-ghost use Rattle.std.specs.Option.{option_map};
 ghost use Rattle.scenarios.specs.Lines.{kind_of, text_line, WordLine, tree_of, written, marked, IsFormed};
 ghost use Rattle.scenarios.specs.Scenario.{Reads, line_words, at_start, begins_character, column_of_text, first_column, end_fault, place_fault, with_block, behind, lines_of, scenario_of};
 ghost use Rattle.scenarios.specs.Building.{before_of, places_of, AreOpen, first_closed, lines_behind, rest_of, Goes};
@@ -22,14 +21,14 @@ pub struct Scenario {
 }
 
 /// A block that is not ended.
-#[derive(Clone, Copy, Debug, PartialEq, Eq)]
-pub struct Opened {
+#[derive(Clone, Copy)]
+struct Opened {
     /// The place of the line that opens it, among those that are kept.
-    pub place: usize,
+    place: usize,
     /// That line's number.
-    pub number: usize,
+    number: usize,
     /// The column of its first word.
-    pub column: usize,
+    column: usize,
 }
 
 /// How many characters begin in these bytes.
@@ -107,7 +106,7 @@ fn end_fault(number: usize, opened: &[Opened], words: &[Word]) -> Option<Fault>
 
 /// What has been read of a scenario.
 #[derive(Drop)]
-pub struct Reading {
+struct Reading {
     /// A line came that is none of the header's.
     body: bool,
     lines: Vec<Line>,

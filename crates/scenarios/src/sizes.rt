@@ -1,7 +1,7 @@
 //! Sizes, as they are written, and the pages that they take.
 
 ghost use Rattle.std.specs.Prelude.{◌≡◌, ℕ, ◌<◌, ◌≤◌, ◌-◌, ◌*◌, ◌^◌, ◌==◌, IfSome};
-ghost use Rattle.scenarios.specs.Sizes.{unit_bytes, last_byte, split_unit, whole_of, places_of, is_decimal, millionths_of, bytes_of, bytes_written, pages_written, size_by_form, without_i, short_unit, hint_of, size_of, limit_of, pages_down, pages_up, is_whole, IsProper, IsFloor, IsCeiling};
+ghost use Rattle.scenarios.specs.Sizes.{unit_bytes, last_byte, split_unit, whole_of, places_of, millionths_of, bytes_of, bytes_written, pages_written, size_by_form, without_i, short_unit, hint_of, size_of, limit_of, pages_down, pages_up, is_whole, IsProper, IsFloor, IsCeiling};
 
 use text_forms::number::{is_digits, long_number_of, number_of};
 

@@ -1,12 +1,13 @@
 //! Texts of scenarios, as they are read.
 
 use crate::fault::ReadError;
-use crate::holes::{Named, fill};
+use crate::holes::{Named, fill, nearest_name};
 use crate::lines::{Line, LineKind, literal};
 use crate::parts::{Which, read_names, read_part};
 use crate::scenario::read;
 use crate::size_faults::SizeFaultText;
 use crate::sizes::{Size, read_size};
+use crate::unknown::Unknown;
 use std::alloc::Global;
 use std::test::Fail;
 
@@ -148,4 +149,21 @@ fn parts_and_names(rt: HostRuntime) {
     );
     assert_eq!(rt; read_names("web[*]"), Some(("web", Which::All)));
     assert_eq!(rt; read_names("web[2..1]"), None);
+}
+
+#[test]
+fn unknown_names_are_said(rt: HostRuntime) -> Result<(), Fail> {
+    let alloc = rt.alloc();
+    let unknown = Unknown {
+        kind: "word",
+        name: "gruop",
+        meant: Some("group"),
+    };
+    assert_eq!(rt;
+        format!(in alloc; "{unknown}")?.as_str(),
+        "no such word \"gruop\"; did you mean \"group\"?"
+    );
+    let values = vec![in alloc; Named::new(String::from_str(alloc, "round")?, String::new(alloc))]?;
+    assert_eq!(rt; nearest_name(alloc, "rond", values.as_slice())?, Some(0));
+    Ok(())
 }

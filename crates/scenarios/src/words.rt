@@ -1,14 +1,13 @@
 //! The words of a line.
 
-ghost use Rattle.std.specs.Prelude.{◌≡◌, ◌+◌, ◌<◌, ◌++◌, ◌||◌, ◌&&◌, not, ◌==◌, [], ◌∷◌, ◌^◌, Ok, Err, length, encode_utf8, IfOk, OnOk, if◌then◌else◌};
-ghost use Rattle.std.specs.Option.{option_map};
+ghost use Rattle.std.specs.Prelude.{◌≡◌, ◌+◌, ◌<◌, ◌||◌, ◌&&◌, not, ◌==◌, ◌^◌, Ok, Err, OnOk};
 ghost use Rattle.std.specs.String.{string_bytes};
 ghost use Rattle.std.specs.Str.{chars};
 ghost use Rattle.scripts.specs.Words.{is_blank};
 ghost use Rattle.scenarios.specs.declared.words.WordError.TheVariants.{Memory};
-ghost use Rattle.scenarios.specs.Pieces.{TextPiece, is_brace};
-ghost use Rattle.scenarios.specs.Words.{TextWord, is_quote, turned, closed_word, words_of};
-ghost use Rattle.scenarios.specs.Reading.{Gives, part_read, line_read, longer, started, part_longer, with_part, words_with, with_word, with_character, part_ended, words_read, rest_read, at_start};
+ghost use Rattle.scenarios.specs.Pieces.{is_brace};
+ghost use Rattle.scenarios.specs.Words.{TextWord, closed_word, words_of, Gives};
+ghost use Rattle.scenarios.specs.Reading.{part_read, line_read, longer, part_longer, with_character, part_ended, words_read, at_start};
 
 use crate::pieces::{Kind, Piece, pieces_of};
 use std::alloc::{AllocError, AllocFailed, Global};
@@ -96,7 +95,7 @@ impl Word {
 
 /// A word that is being read.
 #[derive(Drop)]
-pub struct Part {
+struct Part {
     column: usize,
     /// What is read of it, without quotes.
     text: String,
@@ -171,7 +170,7 @@ impl Part {
 
 /// What has been read of a line.
 #[derive(Drop)]
-pub struct Reader {
+struct Reader {
     /// How many characters.
     before: usize,
     /// A quote is open.

@@ -1,4 +1,4 @@
-use Rattle.std.proofs.Common.{◌≡◌, sym, ◌∙◌}
+use Rattle.std.proofs.Common.{sym, ◌∙◌}
 use Rattle.scenarios.proofs.PartLemmas.{around_dots}
 use Rattle.scenarios.proofs.parts.split_dots.Goals as goal
 

@@ -1,4 +1,4 @@
-use Rattle.std.proofs.Common.{◌≡◌, ◌-◌, ℕ, List, get_or, Some, None, sym, ap, ◌∙◌, arith}
+use Rattle.std.proofs.Common.{◌≡◌, ℕ, List, get_or, Some, sym, ap, ◌∙◌}
 use Rattle.scenarios.specs.Pieces.{fits}
 use Rattle.scenarios.proofs.PieceLemmas.{around_brace, first_ones, misfit, goes_on, ends}
 use Rattle.scenarios.proofs.pieces.pieces_of.Goals as goal

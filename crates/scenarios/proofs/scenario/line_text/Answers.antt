@@ -2,7 +2,7 @@ use Rattle.std.proofs.Common.{◌≡◌, ℕ, ◌+◌, Bool, true, false, List, 
 use Rattle.std.specs.Str.{IsUtf8, is_utf8, valid_up_to}
 use Rattle.std.specs.Str.Lossy.{utf8_valid_len}
 use Rattle.std.proofs.lemmas.Str.{IsUtf8-from_is_utf8, is_utf8-from_IsUtf8, utf8_valid_len-IsValidUpTo}
-use Rattle.scenarios.specs.Scenario.{begins_character, column_of_text}
+use Rattle.scenarios.specs.Scenario.{begins_character}
 use Rattle.scenarios.proofs.scenario.line_text.Goals as goal
 
 by_test : (bytes : List ℕ) (b : Bool) → is_utf8 bytes ≡ b → ¬ (IsUtf8 bytes) → is_utf8 bytes ≡ false

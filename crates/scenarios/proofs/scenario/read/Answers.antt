@@ -1,7 +1,4 @@
-use Rattle.std.proofs.Common.{◌≡◌, ℕ, ◌+◌, List, [], length, sym, ap, subst, ◌∙◌, rules}
-use Rattle.std.specs.Str.Lines.{lines}
-use Rattle.scenarios.specs.Lines.{TextLine}
-use Rattle.scenarios.specs.Scenario.{scenario_of}
+use Rattle.std.proofs.Common.{◌≡◌, ◌+◌, length, sym, ap, ◌∙◌, rules}
 use Rattle.scenarios.specs.Building.{rest_of}
 use Rattle.scenarios.proofs.BlockLemmas.{nothing_left, reads_same}
 use Rattle.scenarios.proofs.scenario.read.Goals as goal

@@ -1,4 +1,4 @@
-use Rattle.std.proofs.Common.{◌≡◌, length, Vec, Global, sym, ◌∙◌, chars}
+use Rattle.std.proofs.Common.{length, Vec, Global, sym, ◌∙◌, chars}
 use Rattle.scenarios.specs.declared.words.Word.{Word}
 use Rattle.std.proofs.lemmas.Result.{err_from_is_err_and}
 use Rattle.std.proofs.lemmas.Str.{IsUtf8-past_char, chars_past_char}
