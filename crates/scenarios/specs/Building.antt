@@ -27,11 +27,11 @@ AreOpen (place ∷ places) many = (place < many) × AreOpen places place
 abbrev pub no_line : TextLine
 no_line = record { number = 0; kind = line.Other; words = []; inside = 0 }
 
--- all lines behind that of this place are in its block
+-- all lines after that of this place are in its block
 abbrev pub closed : List TextLine → ℕ → List TextLine
 closed ls place = slice_set ls place (record (slice_index_or ls place no_line) { inside = length ls - (place + 1) })
 
--- the lines in the end: those kept, and behind them the trees that still come, each of which but the last ends an open block
+-- the lines in the end: those kept, then the trees that still come; each of these but the last ends an open block
 abbrev pub built : List TextLine → List ℕ → List Tree → List TextLine
 built kept [] trees = kept ++ flat (first_tree trees)
 built kept (place ∷ places) trees = built (closed (kept ++ flat (first_tree trees)) place) places (other_trees trees)
@@ -41,7 +41,7 @@ abbrev pub first_closed : List TextLine → List ℕ → List TextLine
 first_closed kept [] = kept
 first_closed kept (place ∷ places) = closed kept place
 
--- the lines that are kept behind a line of this kind
+-- the lines that are kept after a line of this kind
 abbrev pub lines_behind : LineKind → WordLine → List TextLine → List ℕ → List TextLine
 lines_behind line.End l kept places = first_closed kept places
 lines_behind line.Repeat l kept places = kept ++ text_line l 0 ∷ []
@@ -54,7 +54,7 @@ abbrev pub all_built : List TextLine → List ℕ → Result (List WordLine) Fau
 all_built kept places (Ok ls) = Ok (built kept places (trees_of ls))
 all_built kept places (Err f) = Err f
 
--- what comes of a scenario when these lines are still to come, the first of which has this number
+-- the scenario, if these lines are still to come and the first of them has this number
 abbrev pub rest_of : Reading → ℕ → List (List ℕ) → Result (List TextLine) Fault
 rest_of r number ls = all_built r.lines.items (places_of r.opened.items) (lines_from number (before_of r) ls)
 

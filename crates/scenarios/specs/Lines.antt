@@ -123,13 +123,13 @@ ends_block line.Repeat = false
 ends_block line.Together = false
 ends_block line.Other = false
 
--- the lines of a tree, and none where a block ends
+-- the lines of a tree in their order, with nothing in place of each block's `end`
 abbrev pub written : Tree → List (Option WordLine)
 written Nothing = []
 written (Line l more) = Some l ∷ written more
 written (Block l inner more) = Some l ∷ (written inner ++ None ∷ written more)
 
--- the lines of a text, and none where one of them ends a block
+-- the lines of a text in their order, with nothing in place of each `end`
 abbrev pub mark_of : LineKind → WordLine → Option WordLine
 mark_of k l = if ends_block k then None else Some l
 

@@ -12,12 +12,12 @@ use Rattle.scenarios.specs.declared.sizes.Size.{Size}
 use Rattle.scenarios.specs.declared.sizes.SizeFault.{SizeFault}
 use Rattle.scenarios.specs.Sizes.{size_of, last_byte, without_last}
 
--- the place of the first two points one behind the other, where the first byte has this place
+-- the place of the first `..` in bytes whose first one has this place
 abbrev pub dots_from : ℕ → List ℕ → Option ℕ
 dots_from place [] = None
 dots_from place (b ∷ bs) = if b == 46 && slice_index bs 0 == 46 then Some place else dots_from (place + 1) bs
 
--- what is before the two points, and what is behind them
+-- the text before the first `..`, and the text after it
 abbrev pub halves : List ℕ → Option (List ℕ × List ℕ)
 halves word = option_map (λ at. (take at word, drop (at + 2) word)) (dots_from 0 word)
 
@@ -50,7 +50,7 @@ which_of inner = if bytes_eq inner (codes "*") then Some which.All else numbers_
 abbrev pub is_bracket : ℕ → Bool
 is_bracket b = b == 91
 
--- behind the name and its bracket
+-- a name, and what follows its bracket
 abbrev pub bracketed : List ℕ → List ℕ → Option (List ℕ × Which)
 bracketed name rest = if nat_lt 0 (length name) && last_byte rest == 93 then named name (which_of (without_last rest)) else None
   where

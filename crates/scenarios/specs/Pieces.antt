@@ -37,7 +37,7 @@ abbrev pub ended : Bool → List ℕ → Option (List TextPiece)
 ended true name = None
 ended false text = Some (some_text text)
 
--- in a hole or outside, behind what was there since the last brace; none, if a brace doesn't fit
+-- in a hole or outside, after this text since the last brace; none, if a brace doesn't fit
 abbrev pub pieces_from : Bool → List ℕ → List ℕ → Option (List TextPiece)
 pieces_from hole before [] = ended hole before
 pieces_from hole before (b ∷ bs) =

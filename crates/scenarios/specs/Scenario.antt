@@ -36,7 +36,7 @@ first_column ws = column_at ws 0
 abbrev pub fault_in : ℕ → ℕ → Cause → Fault
 fault_in number column c = record { line = number; column = column; cause = c }
 
--- `end` by itself, where a block is open
+-- `end` has to be its line's only word, and a block has to be open
 abbrev pub end_fault : ℕ → List Opened → List TextWord → Option Fault
 end_fault number [] ws = Some (fault_in number (first_column ws) cause.EndAlone)
 end_fault number (o ∷ os) ws = behind_end number ws
@@ -59,7 +59,7 @@ abbrev pub with_block : ℕ → Before → List TextWord → Before
 with_block number before ws =
     record { body = true; kept = before.kept + 1; opened = before.opened ++ record { place = before.kept; number = number; column = first_column ws } ∷ [] }
 
--- behind a line of this kind
+-- after a line of this kind
 abbrev pub behind : ℕ → Before → LineKind → List TextWord → Before
 behind number before line.Header ws = record { body = before.body; kept = before.kept + 1; opened = before.opened }
 behind number before line.Let ws = record { body = before.body; kept = before.kept + 1; opened = before.opened }
@@ -78,7 +78,7 @@ word_faulty number (Err f) = Err (fault_in number f.column (cause.Word f.cause))
 abbrev pub begins_character : ℕ → Bool
 begins_character b = nat_lt b 128 || nat_le 192 b
 
--- the column behind the characters before the first bytes that are no UTF-8
+-- the column of the first bytes that are no UTF-8
 abbrev pub column_of_text : List ℕ → ℕ
 column_of_text bytes = count_by begins_character (take (utf8_valid_len bytes) bytes) + 1
 
@@ -94,7 +94,7 @@ abbrev pub unless_fault : Option Fault → Result (List WordLine) Fault → Resu
 unless_fault None more = more
 unless_fault (Some f) more = Err f
 
--- a line with these words, and the lines behind it
+-- a line with these words, and the lines after it
 abbrev pub with_words : ℕ → Before → List TextWord → (Before → Result (List WordLine) Fault) → Result (List WordLine) Fault
 with_words number before [] more = more before
 with_words number before (w ∷ ws) more =

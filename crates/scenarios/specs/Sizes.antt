@@ -42,7 +42,7 @@ is_point c = c == 46
 abbrev pub has_point : List ℕ → Bool
 has_point number = nat_lt (position_or_len is_point number) (length number)
 
--- the digits before the point, and those behind it
+-- the digits before the point, and those after it
 abbrev pub whole_of : List ℕ → List ℕ
 whole_of number = if has_point number then before_first is_point number else number
 
@@ -53,15 +53,15 @@ places_of number = if has_point number then after_first is_point number else cod
 abbrev pub is_decimal : List ℕ → Bool
 is_decimal number = is_numeral (whole_of number) && is_numeral (places_of number) && nat_le (length (places_of number)) MOST_PLACES
 
--- what the digits behind the point say, in millionths
+-- the digits after the point, in millionths
 abbrev pub millionths_of : List ℕ → ℕ
 millionths_of places = unwrap_or (number_below (2 ^ 32) places) 0 * 10 ^ (MOST_PLACES - length places)
 
--- so many millionths of a byte, where they are within the limit
+-- the size of so many millionths of a byte, if it is within the limit
 abbrev pub bytes_of : ℕ → Result Size SizeFault
 bytes_of millionths = if nat_le (millionths / 10 ^ 6) MOST_BYTES then Ok (size.Bytes (millionths / 10 ^ 6) (millionths % 10 ^ 6)) else Err fault.TooLarge
 
--- so many units, by the number before the point and the digits behind it
+-- so many units, by the number before the point and the digits after it
 abbrev pub scaled : Option ℕ → List ℕ → ℕ → Result Size SizeFault
 scaled None places unit = Err fault.TooLarge
 scaled (Some whole) places unit = bytes_of ((whole * 10 ^ 6 + millionths_of places) * unit)
@@ -134,7 +134,7 @@ is_whole (size.Bytes whole millionths) page = millionths == 0 && (whole % page) 
 
 -- ---- what pages have
 
--- the size in millionths of a byte, where a page has so many bytes
+-- the size in millionths of a byte, for pages of so many bytes
 abbrev pub in_millionths : Size → ℕ → ℕ
 in_millionths (size.Pages pages) page = pages * page * 10 ^ 6
 in_millionths (size.Bytes whole millionths) page = whole * 10 ^ 6 + millionths

@@ -25,11 +25,11 @@ pub record Mark : Type 0 where
 abbrev pub is_quote : ℕ → Bool
 is_quote c = c == 34
 
--- between quotes, behind this character
+-- whether the next character is between quotes
 abbrev pub turned : Bool → ℕ → Bool
 turned inside c = if is_quote c then not inside else inside
 
--- the characters of a line behind so many others, which leave a quote open or not
+-- the characters of a line after so many others, which leave a quote open or not
 abbrev pub marks : ℕ → Bool → List ℕ → List Mark
 marks before inside [] = []
 marks before inside (c ∷ cs) = record { character = c; column = before + 1; inside = inside } ∷ marks (before + 1) (turned inside c) cs
@@ -59,7 +59,7 @@ column_of (m ∷ ms) = m.column
 abbrev pub is_quoted : List Mark → Bool
 is_quoted part = list_any (λ m. is_quote m.character) part
 
--- whether a quote is still open behind a part, before which it is open or not
+-- whether a quote is open after a part, by whether it is before the part
 abbrev pub open_behind : Bool → List Mark → Bool
 open_behind inside [] = inside
 open_behind inside (m ∷ ms) = open_behind (turned inside m.character) ms

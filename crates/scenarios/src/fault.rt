@@ -17,7 +17,7 @@ pub enum Cause {
     Word(WordCause),
     /// A line of the header is below one that is not of the header.
     HeaderBelow,
-    /// An `end` where no block is open.
+    /// An `end` while no block is open.
     EndAlone,
     /// A word follows `end`.
     BehindEnd,
@@ -25,7 +25,7 @@ pub enum Cause {
     NoEnd,
 }
 
-/// What is wrong, and what to do.
+/// What is wrong, then what to do.
 impl fmt::Display for Cause {
     ghost use Rattle.std.specs.Prelude.{Some};
     ghost use Rattle.scenarios.specs.FaultTexts.{cause_text};
@@ -57,7 +57,7 @@ pub struct Fault {
 }
 
 impl Fault {
-    /// What is said of it, where the file has this name.
+    /// The line to print, for a file of this name.
     pub fn text<'a>(self, file: &'a str) -> FaultText<'a>
         ensures file { result.file.now ≡ file.now }
         ensures fault { result.fault ≡ self }
@@ -66,7 +66,7 @@ impl Fault {
     }
 }
 
-/// The line that is said of a fault, without its end.
+/// The line to print for a fault, without its line feed.
 #[derive(Clone, Copy)]
 pub struct FaultText<'a> {
     pub file: &'a str,

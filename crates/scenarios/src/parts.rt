@@ -28,7 +28,7 @@ pub enum Which {
     All,
 }
 
-/// The place of the first two points one behind the other.
+/// The place of the first `..`.
 fn first_dots(word: &str) -> Option<usize>
     ensures { result ≡ dots_from 0 word.now }
 {
@@ -41,7 +41,7 @@ fn first_dots(word: &str) -> Option<usize>
     None
 }
 
-/// What is before the first two points one behind the other, and what is behind them.
+/// The text before the first `..`, and the text after it.
 fn split_dots(word: &str) -> Option<(&str, &str)>
     ensures { option_map texts result ≡ halves word.now }
 {
@@ -51,7 +51,7 @@ fn split_dots(word: &str) -> Option<(&str, &str)>
     }
 }
 
-/// The part that a word writes as `A..B`, if it has two points: its sizes, or what is wrong with the first that is none.
+/// The part that a word writes as `A..B`: two sizes, or the fault of the first that is not one. A word without `..` is no part.
 pub fn read_part(word: &str) -> Option<Result<Part, SizeFault>>
     ensures { result ≡ part_of word.now }
 {

@@ -13,8 +13,8 @@ use scripts::lines::first_line;
 use std::alloc::{AllocError, Global};
 use std::str;
 
-/// What a scenario says: the lines of its tree in their order, without those that end blocks. A line that opens a block knows
-/// how many of the next lines are in it.
+/// A scenario: the lines of its tree in their order, without those that end blocks. A line that opens a block knows how many of
+/// the next lines are in the block.
 #[derive(Drop)]
 pub struct Scenario {
     pub lines: Vec<Line>,
@@ -228,8 +228,8 @@ impl Reading {
     }
 }
 
-/// What a scenario says, or the first faulty line of its text, with the column and the cause. A block without its `end` is
-/// told last, at the line that opens it; of several the first.
+/// The scenario that a text writes, or the text's first fault: line, column and cause. A block without `end` is reported after all
+/// other faults, at the line that opens it. If several blocks have no `end`, it is the first of them.
 pub fn read(alloc: Global, text: &[u8]) -> Result<Scenario, ReadError>
     ensures { Reads (λ s. s.lines.items) result (scenario_of text.now) }
 {
@@ -245,7 +245,7 @@ pub fn read(alloc: Global, text: &[u8]) -> Result<Scenario, ReadError>
     reading.into_scenario()
 }
 
-/// A law: the tree of a faultless text has all its lines, in their order, with an `end` behind each block; and its blocks
+/// A law: the tree of a faultless text has all its lines, in their order, with an `end` after each block; and its blocks
 /// are those that the lines open.
 pub fn tree_has_the_lines()
     ensures lines { (text : List ℕ) (ls : List WordLine) → lines_of text ≡ Ok ls → written (tree_of ls) ≡ marked ls }

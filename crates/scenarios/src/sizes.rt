@@ -8,7 +8,7 @@ use text_forms::number::{is_digits, long_number_of, number_of};
 /// Bytes that a size has, at most: 2^60, which is 1048576T.
 pub const MOST_BYTES: u64 = 1 << 60;
 
-/// Digits behind the point of a size, at most.
+/// Digits after the point of a size, at most.
 pub const MOST_PLACES: usize = 6;
 
 /// An amount of memory.
@@ -34,9 +34,9 @@ pub enum SizeFault {
     NotSize,
     /// It is above what a size can be.
     TooLarge,
-    /// It has a unit of two or three letters, as `Mi`, `MB` and `MiB`, where one is enough.
+    /// It has a unit of two or three letters, as `Mi`, `MB` or `MiB`; one letter is enough.
     LongUnit,
-    /// It says that there is no limit, in words of other programs.
+    /// It means no limit, in the words of other programs.
     Unlimited,
     /// It is a share.
     Percent,
@@ -77,7 +77,7 @@ fn split_unit(word: &str) -> (&str, u64)
     }
 }
 
-/// The digits before a number's point and behind it.
+/// The digits before a number's point, and those after it.
 fn split_point(number: &str) -> (&str, &str)
     ensures whole { result.0.now ≡ whole_of number.now }
     ensures places { result.1.now ≡ places_of number.now }
@@ -103,7 +103,7 @@ fn power_for(places: usize) -> u64
     }
 }
 
-/// What the digits behind the point say, in millionths.
+/// The digits after the point, in millionths.
 fn millionths_of(places: &str) -> u64
     ensures value { result ≡ millionths_of places.now }
     ensures most { result ≤ 2 ^ 32 * 10 ^ 6 }
@@ -214,7 +214,7 @@ fn hint_of(word: &str) -> SizeFault
     }
 }
 
-/// The size that a word writes: digits, a point and up to six more where there are parts, and a unit; or digits and `p`.
+/// The size that a word writes: digits, perhaps a point and one to six digits, perhaps a unit; or digits and `p`, in pages.
 pub fn read_size(word: &str) -> Result<Size, SizeFault>
     ensures { result ≡ size_of word.now }
 {

@@ -11,7 +11,7 @@ use crate::unknown::Unknown;
 use std::alloc::Global;
 use std::test::Fail;
 
-/// What is said of a text's fault, where there is one.
+/// The line to print for a text's fault, if it has one.
 fn said(alloc: Global, text: &[u8]) -> Result<String, Fail> {
     match read(alloc, text) {
         Ok(_) => Ok(String::from_str(alloc, "no fault")?),

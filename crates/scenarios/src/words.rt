@@ -130,7 +130,7 @@ impl Part {
         self.text.push(character)
     }
 
-    /// The word, where no quote is open.
+    /// The word, if no quote is open.
     fn into_word(self, alloc: Global) -> Result<Word, WordError>
         ensures { Gives (λ w. w) result (closed_word self.column self.quoted self.braces (string_bytes self.text)) }
     {
