@@ -40,9 +40,9 @@ SPECIFICATIONS = """
     scripts/specs/Faults.antt scripts/specs/Script.antt scripts/specs/Work.antt scripts/specs/FaultTexts.antt
     printer/specs/Asked.antt printer/specs/Prints.antt subcommands/specs/Scripts.antt subcommands/specs/Told.antt
     live/specs/Exchanges.antt live/specs/Passes.antt live/specs/Works.antt live/specs/Shares.antt live/specs/Matching.antt live/specs/Reports.antt live/specs/Crews.antt live/specs/Told.antt live/specs/OneRun.antt
-    subcommands/specs/Threads.antt
+    subcommands/specs/Threads.antt subcommands/specs/Actors.antt
     expectations/specs/Expected.antt
-    book/specs/Looks.antt charts/specs/Watched.antt charts/specs/Listed.antt subcommands/specs/Charted.antt
+    book/specs/Looks.antt charts/specs/Watched.antt charts/specs/Listed.antt printer/specs/Paths.antt subcommands/specs/Charted.antt
     memcgrun_c/specs/Buffers.antt memcgrun_c/specs/Calls.antt
     laws/specs/Laws.antt""".split()
 

@@ -7,7 +7,7 @@ use Rattle.machine.specs.declared.command.Actor.TheVariants as actor
 use Rattle.machine.specs.declared.command.Command.{Command}
 use Rattle.machine.specs.declared.command.Reply.{Reply}
 use Rattle.machine.specs.declared.refusal.Refusal.{Refusal}
-use Rattle.book.specs.declared.kept.Kept.{Kept}
+use Rattle.live.specs.declared.history.Exchange.{Exchange}
 use Rattle.live.specs.Crews.{WorkerOf, HasWorked, HaveWorked}
 use Rattle.live.specs.Works.{Worked}
 use Rattle.scripts.specs.Work.{number_of, numbers_of}
@@ -46,9 +46,9 @@ at_own who w e = same_actor w.actor who (eqb-true (number_of w.actor) (number_of
 
 -- ---- a worker before others
 
--- what the worker's pass keeps is seen first
+-- what was exchanged with the worker's pass is seen first
 abbrev pub over : WorkerOf → Board → Board
-over w board who = if is_at who w then w.pass.kept else board who
+over w board who = if is_at who w then w.pass.exchanges else board who
 
 abbrev pub boards : List WorkerOf → Board → Board
 boards [] board = board
@@ -58,7 +58,7 @@ pub board_of-append : (ws us : List WorkerOf) → board_of (ws ++ us) ≡ boards
 board_of-append [] us = refl
 board_of-append (w ∷ ws) us = ap (λ (board : Board). over w board) (board_of-append ws us)
 
-pub own_kept : (w : WorkerOf) (board : Board) (who : Actor) → w.actor ≡ who → over w board who ≡ w.pass.kept
+pub own_kept : (w : WorkerOf) (board : Board) (who : Actor) → w.actor ≡ who → over w board who ≡ w.pass.exchanges
 own_kept w board who e = rw (own_at who w e) refl
 
 pub other_kept : (w : WorkerOf) (board : Board) (who : Actor) → is_at who w ≡ false → over w board who ≡ board who
@@ -70,7 +70,7 @@ module _ (marks : Watermarks) where
   -- the board before it may be another that shows the same
   pub piece_from : (who : Actor) (commands : List Command) (before shown after : Board) (said : List Reply) → ((other : Actor) → before other ≡ shown other) → Piece marks who commands before said after → Piece marks who commands shown said after
   piece_from who commands before shown after said same piece = record {
-    did = subst (λ (ks : List Kept). Worked marks who commands ks (after who) said) (same who) piece.did;
+    did = subst (λ (ks : List Exchange). Worked marks who commands ks (after who) said) (same who) piece.did;
     others = λ other differs. piece.others other differs ∙ same other;
   }
 
@@ -85,10 +85,10 @@ module _ (marks : Watermarks) where
       (between, first, second ++ later, piece, pieces-append ps qs between mid after second later rest more, ap (λ (rs : List Reply). rs ++ later) e ∙ append_assoc first second later)
 
   -- the worker itself goes on
-  pub own_piece : (who : Actor) (commands : List Command) (w v : WorkerOf) (board : Board) (said : List Reply) → w.actor ≡ who → v.actor ≡ who → Worked marks who commands w.pass.kept v.pass.kept said
+  pub own_piece : (who : Actor) (commands : List Command) (w v : WorkerOf) (board : Board) (said : List Reply) → w.actor ≡ who → v.actor ≡ who → Worked marks who commands w.pass.exchanges v.pass.exchanges said
       → Piece marks who commands (over w board) said (over v board)
   own_piece who commands w v board said e f worked = record {
-    did = subst (λ (ks : List Kept). Worked marks who commands (over w board who) ks said) (sym (own_kept v board who f)) (subst (λ (ks : List Kept). Worked marks who commands ks v.pass.kept said) (sym (own_kept w board who e)) worked);
+    did = subst (λ (ks : List Exchange). Worked marks who commands (over w board who) ks said) (sym (own_kept v board who f)) (subst (λ (ks : List Exchange). Worked marks who commands ks v.pass.exchanges said) (sym (own_kept w board who e)) worked);
     others = λ other differs.
         other_kept v board other (other_at other v (λ same. differs (same ∙ f)))
         ∙ sym (other_kept w board other (other_at other w (λ same. differs (same ∙ e))));
@@ -97,30 +97,30 @@ module _ (marks : Watermarks) where
   -- another one does, behind it
   pub piece_over : (w : WorkerOf) (who : Actor) (commands : List Command) (before after : Board) (said : List Reply) → is_at who w ≡ false → Piece marks who commands before said after → Piece marks who commands (over w before) said (over w after)
   piece_over w who commands before after said e piece = record {
-    did = subst (λ (ks : List Kept). Worked marks who commands (over w before who) ks said) (sym (other_kept w after who e)) (subst (λ (ks : List Kept). Worked marks who commands ks (after who) said) (sym (other_kept w before who e)) piece.did);
-    others = λ other differs. ap (λ (ks : List Kept). if is_at other w then w.pass.kept else ks) (piece.others other differs);
+    did = subst (λ (ks : List Exchange). Worked marks who commands (over w before who) ks said) (sym (other_kept w after who e)) (subst (λ (ks : List Exchange). Worked marks who commands ks (after who) said) (sym (other_kept w before who e)) piece.did);
+    others = λ other differs. ap (λ (ks : List Exchange). if is_at other w then w.pass.exchanges else ks) (piece.others other differs);
   }
 
   pub pieces_over : (w : WorkerOf) (ps : List (Actor × List Command)) (before after : Board) (said : List Reply) → NotAmong (number_of w.actor) (numbers_of ps) → Pieces marks ps before said after → Pieces marks ps (over w before) said (over w after)
-  pieces_over w [] before after said h (none, kept) = (none, λ who. ap (λ (ks : List Kept). if is_at who w then w.pass.kept else ks) (kept who))
+  pieces_over w [] before after said h (none, kept) = (none, λ who. ap (λ (ks : List Exchange). if is_at who w then w.pass.exchanges else ks) (kept who))
   pieces_over w (p ∷ ps) before after said h (mid, here, later, piece, rest, e) =
       (over w mid, here, later, piece_over w p.0 p.1 before mid here h.0 piece, pieces_over w ps mid after later h.1 rest, e)
 
   -- the actor's worker is put in place
   pub set_piece : (who : Actor) (commands : List Command) (ws : List WorkerOf) (v : WorkerOf) (said : List Reply) → place_of who ws < length ws → v.actor ≡ (slice_index_or ws (place_of who ws) v).actor
-      → Worked marks (slice_index_or ws (place_of who ws) v).actor commands (slice_index_or ws (place_of who ws) v).pass.kept v.pass.kept said → Piece marks who commands (board_of ws) said (board_of (slice_set ws (place_of who ws) v))
+      → Worked marks (slice_index_or ws (place_of who ws) v).actor commands (slice_index_or ws (place_of who ws) v).pass.exchanges v.pass.exchanges said → Piece marks who commands (board_of ws) said (board_of (slice_set ws (place_of who ws) v))
   set_piece who commands [] v said within same worked = absurd (omega arith)
   set_piece who commands (w ∷ ws) v said within same worked = by_test (is_at who w) refl (set_piece who commands ws v said) within same worked
     where
       by_test : (b : Bool) → is_at who w ≡ b
-          → (place_of who ws < length ws → v.actor ≡ (slice_index_or ws (place_of who ws) v).actor → Worked marks (slice_index_or ws (place_of who ws) v).actor commands (slice_index_or ws (place_of who ws) v).pass.kept v.pass.kept said
+          → (place_of who ws < length ws → v.actor ≡ (slice_index_or ws (place_of who ws) v).actor → Worked marks (slice_index_or ws (place_of who ws) v).actor commands (slice_index_or ws (place_of who ws) v).pass.exchanges v.pass.exchanges said
           → Piece marks who commands (board_of ws) said (board_of (slice_set ws (place_of who ws) v)))
           → (if b then 0 else suc (place_of who ws)) < suc (length ws) → v.actor ≡ (slice_index_or (w ∷ ws) (if b then 0 else suc (place_of who ws)) v).actor
-          → Worked marks (slice_index_or (w ∷ ws) (if b then 0 else suc (place_of who ws)) v).actor commands (slice_index_or (w ∷ ws) (if b then 0 else suc (place_of who ws)) v).pass.kept v.pass.kept said
+          → Worked marks (slice_index_or (w ∷ ws) (if b then 0 else suc (place_of who ws)) v).actor commands (slice_index_or (w ∷ ws) (if b then 0 else suc (place_of who ws)) v).pass.exchanges v.pass.exchanges said
           → Piece marks who commands (over w (board_of ws)) said (board_of (slice_set (w ∷ ws) (if b then 0 else suc (place_of who ws)) v))
       by_test true e ih within same worked =
           let is : w.actor ≡ who = at_own who w e in
-          own_piece who commands w v (board_of ws) said is (same ∙ is) (subst (λ (a : Actor). Worked marks a commands w.pass.kept v.pass.kept said) is worked)
+          own_piece who commands w v (board_of ws) said is (same ∙ is) (subst (λ (a : Actor). Worked marks a commands w.pass.exchanges v.pass.exchanges said) is worked)
       by_test false e ih within same worked =
           piece_over w who commands (board_of ws) (board_of (slice_set ws (place_of who ws) v)) said e (ih (omega arith) same worked)
 
@@ -148,7 +148,7 @@ module _ (marks : Watermarks) where
   work_pieces [] (v ∷ vs) board answers worked said apart = absurd cc
   work_pieces (w ∷ ws) [] board answers worked said apart = absurd worked
   work_pieces (w ∷ ws) (v ∷ vs) board answers (worked, rest) (here, later, is, are, e) (first, apart) =
-      let did : Worked marks w.actor w.commands w.pass.kept v.pass.kept here = known_answers (λ (answers : List Reply). Worked marks w.actor w.commands w.pass.kept v.pass.kept answers) v.answers here is worked.answered in
+      let did : Worked marks w.actor w.commands w.pass.exchanges v.pass.exchanges here = known_answers (λ (answers : List Reply). Worked marks w.actor w.commands w.pass.exchanges v.pass.exchanges answers) v.answers here is worked.answered in
       let among : NotAmong (number_of v.actor) (numbers_of (jobs_of ws)) = subst (λ (a : Actor). NotAmong (number_of a) (numbers_of (jobs_of ws))) (sym worked.actor) first in (
         over v (boards ws board),
         here,

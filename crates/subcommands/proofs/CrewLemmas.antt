@@ -9,7 +9,7 @@ use Rattle.machine.specs.declared.config.Watermarks.{Watermarks}
 use Rattle.machine.specs.declared.command.Actor.{Actor}
 use Rattle.machine.specs.declared.command.Command.{Command}
 use Rattle.machine.specs.declared.command.Reply.{Reply}
-use Rattle.book.specs.declared.kept.Kept.{Kept}
+use Rattle.live.specs.declared.history.Exchange.{Exchange}
 use Rattle.live.specs.Crews.{WorkerOf}
 use Rattle.scripts.specs.Work.{number_of, numbers_of}
 use Rattle.subcommands.specs.Threads.{Piece}
@@ -110,13 +110,13 @@ jobs-set (w ∷ ws) (suc k) v within same does = ap (λ (js : List Job). (w.acto
 
 -- ---- a worker more
 
-board-push : (ws : List WorkerOf) (w : WorkerOf) (who : Actor) → w.pass.kept ≡ [] → board_of (ws ++ w ∷ []) who ≡ board_of ws who
+board-push : (ws : List WorkerOf) (w : WorkerOf) (who : Actor) → w.pass.exchanges ≡ [] → board_of (ws ++ w ∷ []) who ≡ board_of ws who
 board-push [] w who fresh = by_test (is_at who w)
   where
-    by_test : (b : Bool) → (if b then w.pass.kept else []) ≡ []
+    by_test : (b : Bool) → (if b then w.pass.exchanges else []) ≡ []
     by_test true = fresh
     by_test false = refl
-board-push (v ∷ ws) w who fresh = ap (λ (ks : List Kept). if is_at who v then v.pass.kept else ks) (board-push ws w who fresh)
+board-push (v ∷ ws) w who fresh = ap (λ (ks : List Exchange). if is_at who v then v.pass.exchanges else ks) (board-push ws w who fresh)
 
 -- none of these is the number
 abbrev NoneIs : ℕ → List ℕ → Type 0

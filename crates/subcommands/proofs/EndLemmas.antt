@@ -12,7 +12,7 @@ use Rattle.machine.specs.History.{Numbered}
 use Rattle.machine.specs.FirstBytes.{first_of}
 use Rattle.machine.specs.Audit.{Passes, IsFirstWrong}
 use Rattle.trace.specs.declared.auditing.First.{First}
-use Rattle.book.specs.Passes.{PassOf}
+use Rattle.live.specs.Passes.{PassOf}
 use Rattle.live.specs.declared.report.Unfinished.{Unfinished}
 use Rattle.live.specs.declared.report.Unfinished.TheVariants.{PassMissing}
 use Rattle.live.specs.Matching.{has_share}
@@ -43,7 +43,7 @@ prints_threads config opening setup work verdict a b c same all kept =
         balances = did.balances;
         passes = here.passes;
         actors = did.actors;
-        kept = did.kept;
+        exchanges = did.exchanges;
         all = did.all;
         entries = end.entries;
         legal = end.legal;
@@ -72,7 +72,7 @@ module _ (entries : List Entry) (passes : List PassOf) (audited : Result (Unit {
 
   -- a report, once what it says was written
   pub concluded : (opening : Opening) (verdict : Verdict) (said : Result Verdict Fault) (a b : Option (List ℕ)) → IsLegal opening (reverse entries) → Numbered (reverse entries) → IsOneRun opening entries passes
-      → All (λ (pass : PassOf). WereGiven opening (reverse entries) pass.caller.worker pass.kept) passes
+      → All (λ (pass : PassOf). WereGiven opening (reverse entries) pass.caller.worker pass.exchanges) passes
       → verdict ≡ verdict_by audited → IfOk said (λ was. (was ≡ verdict) × Appends a b (verdict_line verdict)) → IfOk said (λ was. Concluded opening passes was a b)
   concluded opening verdict (Err why) a b legal numbered one_run each is written = tt
   concluded opening verdict (Ok was) a b legal numbered one_run each is written = record {

@@ -7,7 +7,7 @@ use Rattle.machine.specs.declared.command.Actor.{Actor}
 use Rattle.machine.specs.declared.command.Command.{Command}
 use Rattle.machine.specs.declared.command.Reply.{Reply}
 use Rattle.book.specs.declared.kept.Kept.{Kept}
-use Rattle.book.specs.Passes.{PassOf}
+use Rattle.live.specs.Passes.{PassOf}
 use Rattle.live.specs.Crews.{WorkerOf}
 use Rattle.live.specs.Matching.{has_share}
 use Rattle.subcommands.specs.Crews.{place_of, Hires, Asked, Counts}
@@ -32,7 +32,7 @@ passes-append ws vs = map-append (λ (w : WorkerOf). w.pass) ws vs
 
 pub hires-rest : (who : Actor) (commands : List Command) (old new : List WorkerOf) → Hires who commands old new → AreAtRest (passes_in old) → AreAtRest (passes_in new)
 hires-rest who commands old new h rest =
-    subst AreAtRest (sym (ap passes_in h.hired ∙ passes-append old _)) (rest-append (passes_in old) (h.pass ∷ []) rest (rest-fresh h.pass.kept h.fresh, tt))
+    subst AreAtRest (sym (ap passes_in h.hired ∙ passes-append old _)) (rest-append (passes_in old) (h.pass ∷ []) rest (rest-fresh h.pass.kept h.unused, tt))
 
 set-rest : (ws : List WorkerOf) (k : ℕ) (w : WorkerOf) → k < length ws → AreAtRest (passes_in ws) → (has_share (slice_index_or ws k w).pass.kept ≡ false → has_share w.pass.kept ≡ false) → AreAtRest (passes_in (slice_set ws k w))
 set-rest [] k w within rest on = absurd (omega arith)

@@ -8,3 +8,4 @@ pub mod RoundLemmas
 pub mod RisingLemmas
 pub mod EndLemmas
 mod HandedLemmas
+pub mod ActorLemmas

@@ -11,8 +11,8 @@ use Rattle.machine.specs.declared.command.Actor.TheVariants as actor
 use Rattle.machine.specs.declared.command.Command.{Command}
 use Rattle.machine.specs.declared.command.Command.TheVariants as command
 use Rattle.machine.specs.declared.command.Reply.{Reply}
-use Rattle.book.specs.declared.kept.Kept.{Kept}
-use Rattle.book.specs.Passes.{PassOf}
+use Rattle.live.specs.declared.history.Exchange.{Exchange}
+use Rattle.live.specs.Passes.{PassOf}
 use Rattle.live.specs.Crews.{WorkerOf, HaveWorked}
 use Rattle.live.specs.Works.{Repeated}
 use Rattle.scripts.specs.Work.{number_of, numbers_of}
@@ -96,8 +96,8 @@ says-append ws vs a b c first second = record {
 
 -- ---- all of it
 
-abbrev kept_by : List PassOf → List (List Kept)
-kept_by passes = map (λ (pass : PassOf). pass.kept) passes
+abbrev exchanged : List PassOf → List (List Exchange)
+exchanged passes = map (λ (pass : PassOf). pass.exchanges) passes
 
 same_cons : {A : Type 0} (x y : A) (xs ys : List A) → x ≡ y → xs ≡ ys → x ∷ xs ≡ y ∷ ys
 same_cons {A = A} x y xs ys e f = ap (λ (z : A). z ∷ xs) e ∙ ap (λ (zs : List A). y ∷ zs) f
@@ -106,8 +106,8 @@ map_over : (u : WorkerOf) (board : Board) (ws : List WorkerOf) → NotAmong (num
 map_over u board [] h = refl
 map_over u board (w ∷ ws) h = same_cons _ _ _ _ (other_kept u board w.actor h.0) (map_over u board ws h.1)
 
--- each pass keeps what the board shows of its actor
-kept_board : (us : List WorkerOf) → IsApart (numbers_of (jobs_of us)) → kept_by (passes_in us) ≡ map (board_of us) (map (λ (w : WorkerOf). w.actor) us)
+-- what was exchanged with each pass is what the board shows of its actor
+kept_board : (us : List WorkerOf) → IsApart (numbers_of (jobs_of us)) → exchanged (passes_in us) ≡ map (board_of us) (map (λ (w : WorkerOf). w.actor) us)
 kept_board [] h = refl
 kept_board (u ∷ us) h = same_cons _ _ _ _ (sym (own_kept u (board_of us) u.actor refl)) (kept_board us h.1 ∙ sym (map_over u (board_of us) us h.0))
 
@@ -115,7 +115,7 @@ has_worker : (us : List WorkerOf) (who : Actor) → board_of us who ≢ [] → C
 has_worker [] who h = absurd (h refl)
 has_worker (u ∷ us) who h = by_test (is_at who u) refl (has_worker us who) h
   where
-    by_test : (b : Bool) → is_at who u ≡ b → (board_of us who ≢ [] → Contains (map (λ (w : WorkerOf). w.actor) us) who) → (if b then u.pass.kept else board_of us who) ≢ [] → Contains (u.actor ∷ map (λ (w : WorkerOf). w.actor) us) who
+    by_test : (b : Bool) → is_at who u ≡ b → (board_of us who ≢ [] → Contains (map (λ (w : WorkerOf). w.actor) us) who) → (if b then u.pass.exchanges else board_of us who) ≢ [] → Contains (u.actor ∷ map (λ (w : WorkerOf). w.actor) us) who
     by_test true e ih some = (0, omega arith, at_own who u e)
     by_test false e ih some = let there = ih some in (suc there.0, omega (arith, there.1), there.2)
 
@@ -193,7 +193,7 @@ module _ (marks : Watermarks) (setup : List Line) (rows : List Job) (hired ready
       (subst (λ (board : Board). Pieces marks (jobs_of workers) board says.answers (board_of (worked ++ others))) from
       (subst (λ (board : Board). Pieces marks (jobs_of workers) (boards workers (board_of others)) says.answers board) to pieces))
 
-  pub ran : (fresh daemon : PassOf) (passes : List PassOf) → fresh.kept ≡ [] → Repeated marks actor.Daemon command.Daemon fresh.kept daemon.kept → passes ≡ passes_in worked ++ passes_in others ++ daemon ∷ [] → Ran marks setup rows passes a c
+  pub ran : (fresh daemon : PassOf) (passes : List PassOf) → fresh.exchanges ≡ [] → Repeated marks actor.Daemon command.Daemon fresh.exchanges daemon.exchanges → passes ≡ passes_in worked ++ passes_in others ++ daemon ∷ [] → Ran marks setup rows passes a c
   ran fresh daemon passes new repeated are =
       let us : List WorkerOf = worked ++ others in
       let in_all : passes ≡ passes_in us ++ daemon ∷ [] = are ∙ ap (λ (ps : List PassOf). ps ++ daemon ∷ []) (sym (map-append (λ (w : WorkerOf). w.pass) worked others)) in
@@ -204,10 +204,10 @@ module _ (marks : Watermarks) (setup : List Line) (rows : List Job) (hired ready
         answers = says.answers;
         last = board_of us;
         works = works;
-        daemon = daemon.kept;
-        balances = subst (λ (ks : List Kept). Repeated marks actor.Daemon command.Daemon ks daemon.kept) new repeated;
+        daemon = daemon.exchanges;
+        balances = subst (λ (es : List Exchange). Repeated marks actor.Daemon command.Daemon es daemon.exchanges) new repeated;
         actors = map (λ (w : WorkerOf). w.actor) us;
-        kept = ap kept_by in_all ∙ map-append (λ (pass : PassOf). pass.kept) (passes_in us) (daemon ∷ []) ∙ ap (λ (kss : List (List Kept)). kss ++ daemon.kept ∷ []) (kept_board us apart-after);
+        exchanges = ap exchanged in_all ∙ map-append (λ (pass : PassOf). pass.exchanges) (passes_in us) (daemon ∷ []) ∙ ap (λ (all : List (List Exchange)). all ++ daemon.exchanges ∷ []) (kept_board us apart-after);
         all = has_worker us;
         prints = Appends-trans a b c (texts sets.said) (texts says.answers) sets.prints says.prints;
       }

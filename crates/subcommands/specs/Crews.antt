@@ -4,8 +4,8 @@ use Rattle.machine.specs.declared.config.Watermarks.{Watermarks}
 use Rattle.machine.specs.declared.command.Actor.{Actor}
 use Rattle.machine.specs.declared.command.Command.{Command}
 use Rattle.machine.specs.declared.command.Reply.{Reply}
-use Rattle.book.specs.declared.kept.Kept.{Kept}
-use Rattle.book.specs.Passes.{PassOf}
+use Rattle.live.specs.declared.history.Exchange.{Exchange}
+use Rattle.live.specs.Passes.{PassOf}
 use Rattle.live.specs.Crews.{WorkerOf, HasAnswered}
 use Rattle.scripts.specs.Work.{number_of}
 
@@ -21,19 +21,20 @@ abbrev pub place_of : Actor → List WorkerOf → ℕ
 place_of who [] = 0
 place_of who (worker ∷ workers) = if is_at who worker then 0 else suc (place_of who workers)
 
--- what the actor's pass keeps; nothing where it has none
-abbrev pub board_of : List WorkerOf → Actor → List Kept
+-- what was exchanged with the actor's pass; nothing if it has none
+abbrev pub board_of : List WorkerOf → Actor → List Exchange
 board_of [] who = []
-board_of (worker ∷ workers) who = if is_at who worker then worker.pass.kept else board_of workers who
+board_of (worker ∷ workers) who = if is_at who worker then worker.pass.exchanges else board_of workers who
 
 -- who is to do what
 abbrev pub jobs_of : List WorkerOf → List (Actor × List Command)
 jobs_of workers = map (λ (worker : WorkerOf). (worker.actor, worker.commands)) workers
 
--- a worker more, of an actor who had none, with a pass that keeps nothing yet
+-- a worker more, of an actor who had none, with a pass with which nothing was exchanged yet
 pub record Hires (who : Actor) (commands : List Command) (old new : List WorkerOf) : Type 0 where
   pub pass : PassOf
-  pub fresh : pass.kept ≡ []
+  pub fresh : pass.exchanges ≡ []
+  pub unused : pass.kept ≡ []
   pub none : place_of who old ≡ length old
   pub hired : new ≡ old ++ record { actor = who; pass = pass; commands = commands; answers = Ok [] } ∷ []
 

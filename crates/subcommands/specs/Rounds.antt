@@ -10,8 +10,8 @@ use Rattle.machine.specs.declared.command.Reply.{Reply}
 use Rattle.machine.specs.declared.entry.Entry.{Entry}
 use Rattle.machine.specs.State.{Opening}
 use Rattle.machine.specs.History.{Numbered}
-use Rattle.book.specs.Passes.{PassOf}
-use Rattle.book.specs.declared.kept.Kept.{Kept}
+use Rattle.live.specs.declared.history.Exchange.{Exchange}
+use Rattle.live.specs.Passes.{PassOf}
 use Rattle.live.specs.Crews.{WorkerOf}
 use Rattle.live.specs.Works.{Repeated}
 use Rattle.live.specs.Matching.{has_share}
@@ -43,7 +43,7 @@ abbrev pub AreAtRest : List PassOf → Type 0
 AreAtRest [] = Unit {0}
 AreAtRest (pass ∷ passes) = (has_share pass.kept ≡ false) × AreAtRest passes
 
--- a worker for each row, whose pass keeps nothing yet
+-- a worker for each row, with whose pass nothing was exchanged yet
 pub record HiredAll (rows : List (Actor × List Command)) (workers : List WorkerOf) : Type 0 where
   pub jobs : jobs_of workers ≡ rows
   pub fresh : (who : Actor) → board_of workers who ≡ []
@@ -84,10 +84,10 @@ pub record Ran (marks : Watermarks) (setup : List (Actor × Command)) (work : Li
   pub answers : List Reply
   pub last : Board
   pub works : Pieces marks work board answers last
-  pub daemon : List Kept
+  pub daemon : List Exchange
   pub balances : Repeated marks actor.Daemon command.Daemon [] daemon
   pub actors : List Actor
-  pub kept : map (λ (pass : PassOf). pass.kept) passes ≡ map last actors ++ daemon ∷ []
+  pub exchanges : map (λ (pass : PassOf). pass.exchanges) passes ≡ map last actors ++ daemon ∷ []
   pub all : (who : Actor) → last who ≢ [] → Contains actors who
   pub prints : Appends before after (texts set_up ++ texts answers)
 
@@ -102,7 +102,7 @@ pub record Concluded (opening : Opening) (passes : List PassOf) (verdict : Verdi
   pub legal : IsLegal opening (reverse entries)
   pub numbered : Numbered (reverse entries)
   pub one_run : IsOneRun opening entries passes
-  pub each : All (λ (pass : PassOf). WereGiven opening (reverse entries) pass.caller.worker pass.kept) passes
+  pub each : All (λ (pass : PassOf). WereGiven opening (reverse entries) pass.caller.worker pass.exchanges) passes
   pub concludes : Concludes verdict entries passes
   pub prints : Appends before after (verdict_line verdict)
 

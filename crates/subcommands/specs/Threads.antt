@@ -17,9 +17,10 @@ use Rattle.machine.specs.State.{opening_of}
 use Rattle.machine.specs.History.{Numbered}
 use Rattle.machine.specs.FirstBytes.{first_of}
 use Rattle.machine.specs.Audit.{Passes, IsFirstWrong}
-use Rattle.book.specs.declared.kept.Kept.{Kept}
 use Rattle.machine.specs.Transfers.{transfers_begun, transfers_ended}
-use Rattle.book.specs.Passes.{PassOf, count_of}
+use Rattle.live.specs.declared.history.Exchange.{Exchange}
+use Rattle.live.specs.Exchanges.{entries_in}
+use Rattle.live.specs.Passes.{PassOf}
 use Rattle.live.specs.Works.{Worked, Repeated}
 use Rattle.live.specs.Matching.{Matches}
 use Rattle.live.specs.Reports.{IsLegal}
@@ -32,14 +33,14 @@ use Rattle.subcommands.specs.declared.threads.Verdict.{Verdict}
 use Rattle.subcommands.specs.declared.threads.Verdict.TheVariants.{Fine, Wrong}
 use Rattle.printer.specs.Prints.{texts}
 
--- by actor, what its pass keeps
+-- by actor, what it asked the machine and was told, one exchange after another, with all bytes
 abbrev pub Board : Type 0
-Board = Actor → List Kept
+Board = Actor → List Exchange
 
 abbrev pub no_pass : Board
 no_pass who = []
 
--- an actor is asked for these commands, its pass goes on with what that adds, and no other's does. (Excludes an actor that is answered for
+-- an actor is asked for these commands, its exchanges go on with what that adds, and no other's does. (Excludes an actor that is answered for
 -- another.)
 pub record Piece (marks : Watermarks) (who : Actor) (commands : List Command) (before : Board) (said : List Reply) (after : Board) : Type 0 where
   pub did : Worked marks who commands (before who) (after who) said
@@ -64,27 +65,27 @@ pub record RunOnThreads (config : Config) (setup work : List (Actor × List Comm
   pub answers : List Reply
   pub last : Board
   pub works : Pieces config.watermarks work board answers last
-  -- what the daemon's pass keeps
-  pub daemon : List Kept
+  -- the daemon's exchanges
+  pub daemon : List Exchange
   pub balances : Repeated config.watermarks actor.Daemon command.Daemon [] daemon
   -- all passes: one for each of these actors, among them all that were asked for something, and the daemon's
   pub passes : List PassOf
   pub actors : List Actor
-  pub kept : map (λ (pass : PassOf). pass.kept) passes ≡ map last actors ++ daemon ∷ []
+  pub exchanges : map (λ (pass : PassOf). pass.exchanges) passes ≡ map last actors ++ daemon ∷ []
   pub all : (who : Actor) → last who ≢ [] → Contains actors who
   -- the entries, the oldest first
   pub entries : List Entry
   pub legal : IsLegal (opening_of config) (reverse entries)
   pub numbered : Numbered (reverse entries)
-  -- one run of the machine gave each pass all that it keeps, in order, and left these entries
+  -- one run of the machine told each worker all that it was told, in order, and left these entries
   pub one_run : IsOneRun (opening_of config) entries passes
-  -- so each thing that a pass keeps, a refusal or a path too, is what the machine gave at a beginning of these entries
-  pub each : All (λ (pass : PassOf). WereGiven (opening_of config) (reverse entries) pass.caller.worker pass.kept) passes
+  -- so each exchange, of a refusal or a path too, is what the machine gave at a beginning of these entries
+  pub each : All (λ (pass : PassOf). WereGiven (opening_of config) (reverse entries) pass.caller.worker pass.exchanges) passes
 
--- the passes keep just what the trace has, all of it is of their workers, and no transfer is in flight. (Excludes the trace of another run.)
+-- The trace has just the workers' own exchanges, event for event and byte for byte, all of it is theirs, and no transfer is in flight. (Excludes the trace of another run, and an arrival with other bytes than its worker brought.)
 pub record Agree (entries : List Entry) (passes : List PassOf) : Type 0 where
   pub matches : Matches entries passes
-  pub all : length entries ≡ sum_by (λ (pass : PassOf). count_of pass.kept) passes
+  pub all : length entries ≡ sum_by (λ (pass : PassOf). entries_in pass.exchanges) passes
   pub at_rest : transfers_begun (reverse entries) ≡ transfers_ended (reverse entries)
 
 -- what a verdict says of the trace and of the passes. They agree, and an audit finds nothing wrong in the trace; or its first wrong entry is this one

@@ -12,6 +12,7 @@ use Rattle.scripts.specs.declared.fault.ScriptFault.TheVariants as at
 use Rattle.scripts.specs.FaultTexts.{cause_text, fault_text}
 use Rattle.scripts.specs.Script.{IsFaultless, NamesFirstFault}
 use Rattle.machine.specs.declared.limit.TheConstants.{SCRIPT_BYTES}
+use Rattle.subcommands.specs.declared.threads.TheConstants.{MOST_ACTORS}
 use Rattle.subcommands.specs.declared.fault.Fault.{Fault}
 use Rattle.subcommands.specs.declared.fault.Fault.TheVariants as fault
 use Rattle.printer.specs.declared.options.Options.{Options}
@@ -24,6 +25,7 @@ use Rattle.printer.specs.Prints.{AppendsStart}
 abbrev pub IsUnread : List ℕ → Fault → Type 0
 IsUnread script (fault.Unreadable error) = Unit {0}
 IsUnread script fault.TooLong = SCRIPT_BYTES < length script
+IsUnread script (fault.TooManyActors actors) = ⊥
 IsUnread script (fault.Script why) = ⊥
 IsUnread script (fault.Placed why told) = ⊥
 IsUnread script (fault.Memory wanted) = ⊥
@@ -52,6 +54,7 @@ Places file why text = BeginsSo (placed_text file why) text
 abbrev pub ExplainsIn : Mode → Options → List ℕ → List ℕ → Fault → Type 0
 ExplainsIn mode options file script (fault.Unreadable error) = ⊥
 ExplainsIn mode options file script fault.TooLong = ⊥
+ExplainsIn mode options file script (fault.TooManyActors actors) = ⊥
 ExplainsIn mode options file script (fault.Script why) = NamesFirstFault mode why (lines script)
 ExplainsIn mode options file script (fault.Placed why told) = (places_faults options ≡ true) × NamesFirstFault mode why (lines script) × Places file why (string_bytes told)
 ExplainsIn mode options file script (fault.Memory wanted) = IsFaultless mode (lines script)
@@ -66,6 +69,7 @@ Explains options file script why = ExplainsIn Schedule options file script why
 abbrev pub IsOfScript : Fault → Type 0
 IsOfScript (fault.Unreadable error) = Unit {0}
 IsOfScript fault.TooLong = Unit {0}
+IsOfScript (fault.TooManyActors actors) = Unit {0}
 IsOfScript (fault.Script why) = Unit {0}
 IsOfScript (fault.Placed why told) = Unit {0}
 IsOfScript (fault.Memory wanted) = ⊥
@@ -76,6 +80,7 @@ IsOfScript (fault.Refused told) = ⊥
 abbrev pub IsRefused : Fault → Type 0
 IsRefused (fault.Unreadable error) = ⊥
 IsRefused fault.TooLong = ⊥
+IsRefused (fault.TooManyActors actors) = ⊥
 IsRefused (fault.Script why) = ⊥
 IsRefused (fault.Placed why told) = ⊥
 IsRefused (fault.Memory wanted) = ⊥
@@ -88,6 +93,7 @@ IsRefused (fault.Refused told) = Unit {0}
 abbrev pub front_of : Fault → List ℕ
 front_of (fault.Unreadable error) = codes "the script can't be read: "
 front_of fault.TooLong = codes ""
+front_of (fault.TooManyActors actors) = codes "the run can't be made: "
 front_of (fault.Script why) = codes ""
 front_of (fault.Placed why told) = codes ""
 front_of (fault.Memory wanted) = codes "the run can't be made: "
@@ -98,6 +104,7 @@ front_of (fault.Refused told) = codes ""
 abbrev pub rest_of : Fault → Option (List ℕ)
 rest_of (fault.Unreadable error) = None
 rest_of fault.TooLong = Some (codes "the script has more than 64 MiB")
+rest_of (fault.TooManyActors actors) = Some (codes "the script has " ++ (decimal actors ++ (codes " actors, and at most " ++ (decimal MOST_ACTORS ++ codes " can run at once"))))
 rest_of (fault.Script why) = Some (fault_text why)
 rest_of (fault.Placed why told) = Some (string_bytes told)
 rest_of (fault.Memory wanted) = None
@@ -118,6 +125,7 @@ AllTold P why = Behind P (front_of why) (rest_of why)
 abbrev pub IsSilent : Fault → Type 0
 IsSilent (fault.Unreadable error) = ⊥
 IsSilent fault.TooLong = ⊥
+IsSilent (fault.TooManyActors actors) = ⊥
 IsSilent (fault.Script why) = ⊥
 IsSilent (fault.Placed why told) = ⊥
 IsSilent (fault.Memory wanted) = ⊥
@@ -146,6 +154,7 @@ pub record TellsWhy (script : List ℕ) (old new : Option (List ℕ)) : Type 0 w
 abbrev pub IsRunFault : Fault → Type 0
 IsRunFault (fault.Unreadable error) = ⊥
 IsRunFault fault.TooLong = ⊥
+IsRunFault (fault.TooManyActors actors) = ⊥
 IsRunFault (fault.Script why) = ⊥
 IsRunFault (fault.Placed why told) = ⊥
 IsRunFault (fault.Memory wanted) = Unit {0}
@@ -156,6 +165,7 @@ IsRunFault (fault.Refused told) = ⊥
 abbrev pub IsScheduleFault : Options → Fault → Type 0
 IsScheduleFault options (fault.Unreadable error) = ⊥
 IsScheduleFault options fault.TooLong = ⊥
+IsScheduleFault options (fault.TooManyActors actors) = ⊥
 IsScheduleFault options (fault.Script why) = ⊥
 IsScheduleFault options (fault.Placed why told) = ⊥
 IsScheduleFault options (fault.Memory wanted) = Unit {0}

@@ -1,6 +1,6 @@
 //! Charts and tables of what groups are charged with.
 
-ghost use Rattle.std.specs.Prelude.{◌≡◌, ℕ, true, List, IsErr, IfOk, IfErr, OnOk, string_bytes};
+ghost use Rattle.std.specs.Prelude.{◌≡◌, ℕ, true, List, map, IsErr, IfOk, IfErr, OnOk, string_bytes};
 ghost use Rattle.std.specs.Io.KnownBytes.{Appends};
 ghost use Rattle.std.specs.Str.Lines.{lines};
 ghost use Rattle.machine.specs.State.{blocks_of, is_config};
@@ -8,7 +8,7 @@ ghost use Rattle.block_store.specs.Device.{new_disk};
 ghost use Rattle.scripts.specs.declared.fault.Cause.{Cause};
 ghost use Rattle.scripts.specs.declared.mode.Mode.TheVariants.{Schedule};
 ghost use Rattle.scripts.specs.Script.{IsFirstFault};
-ghost use Rattle.subcommands.specs.Charted.{ListsRun, ListsScript};
+ghost use Rattle.subcommands.specs.Charted.{charted_in, ListsRun, ListsScript};
 ghost use Rattle.subcommands.specs.Told.{Explains, IsOfScript, IsRunFault};
 
 use crate::device::new_device;
@@ -32,11 +32,13 @@ pub enum Drawing {
     Table,
 }
 
-/// The paths whose groups are drawn: those of all groups that the steps make, or the root's where they make none.
-fn charted_paths(alloc: Global, schedule: &driver::Schedule) -> Result<Vec<&str>, AllocError> {
-    let mut paths = paths_of(alloc, schedule)?;
+/// The paths whose groups are drawn: those of all groups that the steps make, or the root's if they make none.
+fn charted_paths(alloc: Global, schedule: &driver::Schedule) -> Result<Vec<&str>, AllocError>
+    ensures { IfOk result (λ paths. map (λ p. p.now) paths.items ≡ charted_in schedule.now.steps) }
+{
+    let paths = paths_of(alloc, schedule)?;
     if paths.is_empty() {
-        paths.push("/")?;
+        return Ok(vec![in alloc; "/"]?);
     }
     Ok(paths)
 }
@@ -130,7 +132,7 @@ pub fn chart<O: Write>(
     ensures faulty { (n : ℕ) (cause : Cause) → IsFirstFault Schedule (lines script.now) n cause → IsErr result × (O.contents out.new ≡ O.contents out.old) }
     ensures why { IfErr result (Explains options title.now script.now) }
     ensures unrun { IfErr result (λ why. IsOfScript why → O.contents out.new ≡ O.contents out.old) }
-    // Where it comes to its end, `out` got the table of some paths, if a table was asked for.
+    // Then `out` got the table of all groups that the script makes, if a table was asked for.
     ensures listed { OnOk result (kind ≡ Drawing.Table → ListsScript options script.now (O.contents out.old) (O.contents out.new)) }
 {
     one_answer();

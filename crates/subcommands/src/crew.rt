@@ -133,12 +133,13 @@ impl<L: Opened> Crew<L> {
     }
 }
 
-/// A pass more. It fails for want of memory: no script names so many actors as there can be passes.
+/// A pass more. It fails for want of memory: a script with more actors than there can be passes is refused before.
 pub fn new_pass<L: Opened, D: SharedDevice, R: Wait>(
     rt: &R,
     live: &Live<L, D>,
     roll: &mut Roll<L>,
 ) -> Result<Pass<L>, AllocError>
+    ensures exchanges { IfOk result (λ pass. pass.exchanges ≡ []) }
     ensures kept { IfOk result (λ pass. pass.kept ≡ []) }
     ensures counted { OnOk result (roll.new.given ≡ roll.old.given + 1) }
 {

@@ -6,6 +6,7 @@ ghost use Rattle.machine.specs.Control.{line};
 ghost use Rattle.printer.specs.Prints.{AppendsStart};
 ghost use Rattle.subcommands.specs.Told.{front_of, rest_of, IsSilent, Reports, StartsReport, Behind};
 
+use crate::threads::MOST_ACTORS;
 use arrayvec::ArrayVec;
 use machine::bytes::PAGE_BYTES;
 use machine::config::Config;
@@ -29,6 +30,8 @@ pub enum Fault {
     Unreadable(io::Error),
     /// The script has more bytes than [`crate::SCRIPT_BYTES`].
     TooLong,
+    /// The script has so many actors, and no more than [`crate::MOST_ACTORS`] can run at once.
+    TooManyActors(usize),
     /// A line is faulty, or there was no memory for what the script says.
     Script(ScriptFault),
     /// A line is faulty. The text is what is told of it: its line with the name of the script's file, and behind that one
@@ -49,7 +52,7 @@ impl Fault {
     {
         match self {
             Fault::Unreadable(_) => "the script can't be read: ",
-            Fault::Memory(_) => "the run can't be made: ",
+            Fault::Memory(_) | Fault::TooManyActors(_) => "the run can't be made: ",
             Fault::Unwritable(_) => "the answers can't be written: ",
             Fault::TooLong | Fault::Script(_) | Fault::Placed(_, _) | Fault::Refused(_) => "",
         }
@@ -115,6 +118,10 @@ impl fmt::Display for Rest<'_> {
     fn fmt<W: fmt::Write>(&self, f: &mut fmt::Formatter<W>) -> fmt::Result {
         match self.fault {
             Fault::TooLong => f.write_str("the script has more than 64 MiB"),
+            Fault::TooManyActors(actors) => write!(
+                f,
+                "the script has {actors} actors, and at most {MOST_ACTORS} can run at once"
+            ),
             Fault::Script(fault) => write!(f, "{}", fault.text()),
             Fault::Placed(_, told) | Fault::Refused(told) => f.write_str(told.as_str()),
             Fault::Memory(wanted) => write!(f, "{wanted}"),

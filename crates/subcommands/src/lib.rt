@@ -36,7 +36,7 @@ use scripts::{Mode, Script, ScriptFault, one_answer};
 use std::alloc::{AllocError, Global};
 use std::io;
 use std::io::{ErrorKind, Read, Write};
-pub use threads::{Verdict, run, run_over, run_script_on_threads, status_of_run};
+pub use threads::{MOST_ACTORS, Verdict, run, run_over, run_script_on_threads, status_of_run};
 
 /// The most bytes that a script may have. A reader that never ends is refused by it, and takes no
 /// more memory than this.

@@ -13,7 +13,9 @@ ghost use Rattle.scripts.specs.Script.{IsFirstFault, NamesFirstFault};
 ghost use Rattle.scripts.specs.Work.{numbers_of, shown_rows};
 ghost use Rattle.printer.specs.Asked.{plain};
 ghost use Rattle.printer.specs.Prints.{texts};
-ghost use Rattle.subcommands.specs.Told.{IsUnread, ExplainsIn, IsOfScript, StartsReport, IsRunFault};
+ghost use Rattle.subcommands.specs.declared.threads.TheConstants.{MOST_ACTORS};
+ghost use Rattle.subcommands.specs.Actors.{actors_in, actors_of_script, IsCrowd, ExplainsOnThreads};
+ghost use Rattle.subcommands.specs.Told.{IsUnread, IsOfScript, StartsReport, IsRunFault};
 ghost use Rattle.subcommands.specs.Threads.{verdict_line, status_by, PrintsThreads, PrintsScriptOnThreads};
 ghost use Rattle.subcommands.specs.Rounds.{verdict_by, HiredAll, SetsUp, SaysRows, passes_in, AreHandedIn, Ran, Concluded, RanAll};
 ghost use Rattle.subcommands.specs.Crews.{Counts};
@@ -26,14 +28,19 @@ use block_store::{Locked, MemDevice, SharedDevice};
 use live::{Live, Opened, Pass, Report, Roll, Unnamed, Worker, work_together};
 use machine::command::{Actor, Command, Reply};
 use machine::config::Config;
+use machine::limit::MOST_PASSES;
 use printer::{Options, write_bytes};
-use scripts::{Mode, Script, each_actor_has_its_row, one_answer};
+use scripts::{Mode, Script, each_actor_has_its_row, number_of, one_answer};
 use std::alloc::{AllocError, Global};
+use std::collections::HashSet;
 use std::io;
 use std::io::{Read, Write};
 use std::marker::Brand;
 use std::sync::Wait;
 use std::thread::Threads;
+
+/// Actors of a script that run at once, at most. Each has a pass, and the daemon that runs beside them has one.
+pub const MOST_ACTORS: usize = MOST_PASSES - 1;
 
 const FAILED: u8 = 1;
 
@@ -87,6 +94,41 @@ fn print_answers<O: Write>(alloc: Global, answers: &[Reply], out: &mut O) -> io:
         print_answer(&mut text, reply, out)?;
     }
     Ok(())
+}
+
+/// How many actors are asked for something, before the threads go or then.
+fn count_actors(
+    alloc: Global,
+    setup: &[(Actor, Command)],
+    work: &[(Actor, Vec<Command>)],
+) -> Result<usize, AllocError>
+    ensures { IfOk result (λ count. count ≡ actors_in setup.now (shown_rows work.now)) }
+{
+    let mut numbers = HashSet::new(alloc);
+    for (actor, _) in setup {
+        numbers.insert(number_of(*actor))?;
+    }
+    for (actor, _) in work {
+        numbers.insert(number_of(*actor))?;
+    }
+    Ok(numbers.len())
+}
+
+/// Refuses a run of more actors than can run at once.
+fn refuse_crowd(
+    alloc: Global,
+    wanted: Wanted,
+    setup: &[(Actor, Command)],
+    work: &[(Actor, Vec<Command>)],
+) -> Result<(), Fault>
+    ensures few { OnOk result (actors_in setup.now (shown_rows work.now) ≤ MOST_ACTORS) }
+    ensures why { IfErr result (λ why. IsCrowd (actors_in setup.now (shown_rows work.now)) why ⊎ IsRunFault why) }
+{
+    match count_actors(alloc, setup, work) {
+        Err(AllocError) => Err(Fault::Memory(wanted)),
+        Ok(actors) if actors > MOST_ACTORS => Err(Fault::TooManyActors(actors)),
+        Ok(_) => Ok(()),
+    }
 }
 
 /// A worker for each row, in their order.
@@ -327,7 +369,7 @@ fn run_live<
 /// Runs what a script asks of threads over a device that has as many blocks as the script's header asks for: what
 /// stands before the first `go`, one after the other, and each answer is written at once; then each actor's row in a
 /// thread of its own, with the daemon beside them, and the answers are written row by row; then what the trace of all
-/// that says in one line.
+/// that says in one line. It is refused before any of that if the script has more than [`MOST_ACTORS`] actors.
 ///
 /// `L` tells what the machine was opened with, and which history has what its workers are told; the proof of a call at
 /// `Brand` picks both.
@@ -349,7 +391,10 @@ pub fn run_over<
     requires fits { blocks_in L.opening ≤ D.extent device }
     requires rows { IsStrictlyIncreasing (numbers_of (shown_rows script.work.items)) }
     ensures whole { IfOk result (λ verdict. PrintsThreads script.config script.setup.items (shown_rows script.work.items) verdict (O.contents out.old) (O.contents out.new)) }
-    ensures why { IfErr result IsRunFault }
+    ensures crowd { MOST_ACTORS < actors_in script.setup.items (shown_rows script.work.items) → IsErr result × (O.contents out.new ≡ O.contents out.old) }
+    ensures why { IfErr result (λ why. IsCrowd (actors_in script.setup.items (shown_rows script.work.items)) why ⊎ IsRunFault why) }
+    // It says so only where nothing was run.
+    ensures unrun { IfErr result (λ why. IsOfScript why → O.contents out.new ≡ O.contents out.old) }
 {
     let Script {
         config,
@@ -358,6 +403,7 @@ pub fn run_over<
         ..
     } = script;
     let wanted = Wanted::of(&config, device.blocks());
+    refuse_crowd(alloc, wanted, &setup, &work)?;
     let Ok((live, roll)) = Live::<L, D>::open(alloc, config, device, unnamed) else {
         return Err(Fault::Memory(wanted));
     };
@@ -382,7 +428,9 @@ fn run_new<R: Threads + Wait + Sync, O: Write>(
     requires limits { is_config script.config ≡ true }
     requires rows { IsStrictlyIncreasing (numbers_of (shown_rows script.work.items)) }
     ensures whole { IfOk result (λ verdict. PrintsThreads script.config script.setup.items (shown_rows script.work.items) verdict (O.contents out.old) (O.contents out.new)) }
-    ensures why { IfErr result IsRunFault }
+    ensures crowd { MOST_ACTORS < actors_in script.setup.items (shown_rows script.work.items) → IsErr result × (O.contents out.new ≡ O.contents out.old) }
+    ensures why { IfErr result (λ why. IsCrowd (actors_in script.setup.items (shown_rows script.work.items)) why ⊎ IsRunFault why) }
+    ensures unrun { IfErr result (λ why. IsOfScript why → O.contents out.new ≡ O.contents out.old) }
 {
     let made = new_device(
         alloc,
@@ -413,7 +461,9 @@ pub fn run_script_on_threads<R: Threads + Wait + Sync, O: Write>(
 ) -> Result<Verdict, Fault>
     ensures whole { IfOk result (λ verdict. PrintsScriptOnThreads options.placement script.now verdict (O.contents out.old) (O.contents out.new)) }
     ensures faulty { (n : ℕ) (cause : Cause) → IsFirstFault Run (lines script.now) n cause → IsErr result × (O.contents out.new ≡ O.contents out.old) }
-    ensures why { IfErr result (ExplainsIn Run options file.now script.now) }
+    // A script with more actors than can run at once is refused, and nothing is run.
+    ensures crowd { MOST_ACTORS < actors_of_script script.now → IsErr result × (O.contents out.new ≡ O.contents out.old) }
+    ensures why { IfErr result (ExplainsOnThreads options file.now script.now) }
     // It is the script's only where nothing was run.
     ensures unrun { IfErr result (λ why. IsOfScript why → O.contents out.new ≡ O.contents out.old) }
 {
@@ -450,7 +500,8 @@ fn read_and_run<R: Threads + Wait + Sync, I: Read, O: Write>(
 ) -> Result<Verdict, Fault>
     ensures whole { IfOk result (λ verdict. IfSome (I.remaining script.old) (λ all. PrintsScriptOnThreads Own all verdict (O.contents out.old) (O.contents out.new))) }
     ensures faulty { IfSome (I.remaining script.old) (λ all. (n : ℕ) (cause : Cause) → IsFirstFault Run (lines all) n cause → IsErr result × Keeps (O.contents out.old) (O.contents out.new)) }
-    ensures why { IfErr result (λ why. IfSome (I.remaining script.old) (λ all. IsUnread all why ⊎ ExplainsIn Run plain [] all why)) }
+    ensures crowd { IfSome (I.remaining script.old) (λ all. MOST_ACTORS < actors_of_script all → IsErr result × Keeps (O.contents out.old) (O.contents out.new)) }
+    ensures why { IfErr result (λ why. IfSome (I.remaining script.old) (λ all. IsUnread all why ⊎ ExplainsOnThreads plain [] all why)) }
 {
     match read_script(alloc, script) {
         Ok(bytes) => run_script_on_threads(rt, alloc, Options::default(), "", &bytes, out),
@@ -479,6 +530,8 @@ pub fn run<R: Threads + Wait + Sync, I: Read, O: Write, E: Write>(
     ensures silent { result ≡ 0 → Keeps (E.contents err.old) (E.contents err.new) }
     // Of a script with a faulty line it is 1, and `out` got nothing.
     ensures faulty { IfSome (I.remaining script.old) (λ all. (n : ℕ) (cause : Cause) → IsFirstFault Run (lines all) n cause → (result ≡ 1) × Keeps (O.contents out.old) (O.contents out.new)) }
+    // So of one with more actors than can run at once.
+    ensures crowd { IfSome (I.remaining script.old) (λ all. MOST_ACTORS < actors_of_script all → (result ≡ 1) × Keeps (O.contents out.old) (O.contents out.new)) }
 {
     let ran = read_and_run(rt, alloc, script, out);
     status_of_run(ran, err)

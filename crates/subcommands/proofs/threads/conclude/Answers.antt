@@ -1,3 +1,5 @@
+use Rattle.std.proofs.Common.{◌∙◌, sym}
+use Rattle.live.proofs.RestLemmas.{sum-kept}
 use Rattle.subcommands.proofs.EndLemmas.{concluded, none_missing}
 use Rattle.subcommands.proofs.threads.conclude.Goals as goal
 
@@ -5,7 +7,7 @@ pub returns-clause-whole : goal.returns-clause-whole
 returns-clause-whole g c =
     let report = c.in-Ok.report in
     let said = c.in-Ok.ensures in
-    concluded report.trace.entries c.args.passes.items report.audit (record { matches = rw said.always at said.matches; all = said.entries; at_rest = said.at_rest said.always }) said.audited.0 said.first
+    concluded report.trace.entries c.args.passes.items report.audit (record { matches = rw said.always at said.matches; all = said.entries ∙ sym (sum-kept c.args.passes.items said.whole); at_rest = said.at_rest said.always }) said.audited.0 said.first
     _ c.verdict_of.result c.say.result _ _ said.legal said.numbered said.one_run said.each c.verdict_of.ensures c.say.ensures.whole
 
 pub unreachable-requires : goal.unreachable-requires

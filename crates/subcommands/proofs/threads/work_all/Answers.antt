@@ -12,7 +12,7 @@ returns-in-Ok-all_passes-clause-whole g c =
     let back = parts.1 ∙ ap (λ (n : ℕ). drop n ready) c.len-rows.ensures in
     ran g.L.Opened.opening.watermarks c.args.setup.items _ hired ready c.in-Ok-split.workers.items c.in-Ok-split.others.items c.work_together-workers.result.0.items _ _ _ c.in-Ok.ensures.hired c.in_ok-set_up.ensures.whole front back
     c.work_together-workers.ensures.workers c.work_together-workers.ensures.count (rw c.deref.ensures.value at c.in_ok-print_rows.ensures.whole)
-    c.in-Ok-new_pass.daemon c.work_together-workers.result.1 _ c.in-Ok-new_pass.ensures.kept c.work_together-workers.ensures.daemon c.in-Ok-all_passes.ensures
+    c.in-Ok-new_pass.daemon c.work_together-workers.result.1 _ c.in-Ok-new_pass.ensures.exchanges c.work_together-workers.ensures.daemon c.in-Ok-all_passes.ensures
 
 pub split-requires : goal.split-requires
 split-requires g c = set_up-more g.L.Opened.opening.watermarks c.args.setup.items c.in-Ok.crew.workers.items c.set_up.new.crew.workers.items _ _ c.len-rows.result c.in_ok-set_up.ensures.whole c.len-rows.ensures
