@@ -72,19 +72,19 @@ impl Killing<'_> {
     fn write_limit<W: Write>(&self, f: &mut Formatter<W>) -> fmt::Result {
         let path = self.path;
         match (self.cause, self.max) {
-            (Cause::Frame, _) => f.write_str("at or below /, where no frame is free"),
+            (Cause::Frame, _) => f.write_str("at or below /: no frame is free and"),
             // Not reached: a group without a max has room.
-            (_, Amount::Max) => write!(f, "at or below {path}"),
+            (_, Amount::Max) => write!(f, "at or below {path}:"),
             (Cause::Charge(_), Amount::Pages(max)) => {
                 let max = Size(max);
-                write!(f, "at or below {path}, whose memory.max {max} is reached")
+                write!(f, "at or below {path}, whose memory.max {max} is reached:")
             }
             (Cause::Lower(_), Amount::Pages(max)) => {
                 let max = Size(max);
                 let usage = Size(self.usage);
                 write!(
                     f,
-                    "at or below {path}, whose {usage} are more than its new memory.max {max}"
+                    "at or below {path}, whose {usage} are more than its new memory.max {max}:"
                 )
             }
         }
@@ -96,7 +96,7 @@ impl fmt::Display for Killing<'_> {
         self.write_choice(f)?;
         f.write_str(" ")?;
         self.write_limit(f)?;
-        f.write_str(" and where nothing can be reclaimed")?;
+        f.write_str(" nothing can be reclaimed")?;
         match self.group {
             Some(path) => write!(
                 f,
