@@ -54,7 +54,7 @@ pub enum Verdict {
 }
 
 /// The verdict on a run.
-fn verdict_of(report: &Report) -> Verdict
+fn verdict_of<D>(report: &Report<D>) -> Verdict
     ensures { result ≡ verdict_by report.now.audit }
 {
     match &report.audit {
