@@ -19,9 +19,9 @@ enum Lie {
     None,
     /// Each byte is one more at each read.
     OneMore,
-    /// The first byte of a block is another once it was written.
+    /// The first byte of a block changes when the block is written.
     Spoiled,
-    /// The first byte is another at the second read.
+    /// The first byte changes at the second read.
     AtTheSecondRead,
 }
 
@@ -74,7 +74,7 @@ impl Disk {
     }
 }
 
-/// Lets a reply go. A ticket in it was handed back.
+/// Spends a reply. A ticket in it was handed back.
 fn spend(reply: Reply)
     requires { IsSpendableReply reply }
 {
@@ -119,7 +119,7 @@ fn leave(book: &mut Book, pass: &mut Pass, disk: &mut Disk, ticket: OutTicket)
     }
 }
 
-/// One access of task 1. Where a page has to be read in, that is all that is done.
+/// One access of task 1. If a page has to be read in, only that is done.
 fn touch(book: &mut Book, pass: &mut Pass, disk: &mut Disk, place: Place, op: Op) {
     if pass.reserve(2).is_err() {
         return;
@@ -137,7 +137,7 @@ fn touch(book: &mut Book, pass: &mut Pass, disk: &mut Disk, place: Place, op: Op
     }
 }
 
-/// One page is taken.
+/// Evicts one page.
 fn evict(book: &mut Book, pass: &mut Pass, disk: &mut Disk) {
     if pass.reserve(2).is_err() {
         return;
@@ -148,7 +148,7 @@ fn evict(book: &mut Book, pass: &mut Pass, disk: &mut Disk) {
     }
 }
 
-/// Group `/a`, and task 1 in it.
+/// Makes group `/a`, and task 1 in it.
 fn begin(book: &mut Book, pass: &mut Pass, path: Text) {
     if pass.reserve(2).is_err() {
         return;
@@ -163,7 +163,7 @@ fn begin(book: &mut Book, pass: &mut Pass, path: Text) {
     ));
 }
 
-/// What an audit finds after a page was written, taken, read in and read, and how many entries there were.
+/// What an audit finds after a page was written, evicted, read in and read, and how many entries there were.
 fn after_swap(alloc: Global, lie: Lie) -> Result<(Result<(), First>, usize), Fail> {
     let config = Config {
         frames: 2,
@@ -192,7 +192,7 @@ fn after_swap(alloc: Global, lie: Lie) -> Result<(Result<(), First>, usize), Fai
     Ok((audit(&trace), trace.len()))
 }
 
-/// The same of a page of a file that is read, dropped, and read again.
+/// The same for a page of a file that is read, dropped, and read again.
 fn after_a_second_read(alloc: Global, lie: Lie) -> Result<(Result<(), First>, usize), Fail> {
     let mut files = FileList::new(alloc);
     files.push(File {
@@ -255,14 +255,14 @@ fn a_files_first_arrival_is_what_it_had(rt: HostRuntime) -> Result<(), Fail> {
     Ok(())
 }
 
-/// A virtual page of the task is freed, which asks for nothing but the task.
+/// Frees a virtual page of the task. This requires nothing but the task.
 fn free(book: &mut Book, pass: &mut Pass, task: TaskId) {
     if pass.reserve(1).is_ok() {
         spend(book.call(pass, Event::Free { task, page: 0 }));
     }
 }
 
-// Two events, one that is refused, a path that is looked for, and one event more.
+// Two events, a refused one, a path that is looked up, and another event.
 #[test]
 fn what_is_refused_is_kept_and_leaves_no_entry(rt: HostRuntime) -> Result<(), Fail> {
     let config = Config {

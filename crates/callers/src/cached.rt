@@ -46,7 +46,7 @@ pub fn begin<R: AllocGlobal>(rt: &R, steps: &mut Vec<Step>) -> Result<(), AllocE
     add(steps, Actor::Shell, Command::Task { task: 1, path })
 }
 
-/// It reaches for byte 5 of the file's second page.
+/// It accesses byte 5 of the file's second page.
 pub fn reach(steps: &mut Vec<Step>, op: Op) -> Result<(), AllocError> {
     let place = Place::File {
         file: 0,
@@ -56,7 +56,7 @@ pub fn reach(steps: &mut Vec<Step>, op: Op) -> Result<(), AllocError> {
     add(steps, Actor::Task(1), Command::Access { place, op })
 }
 
-/// The device, whose last block has a 9 there.
+/// The device. Its last block has a 9 at that byte.
 fn device<R: Abort + AllocGlobal>(rt: &R) -> Result<MemDevice, AllocError> {
     let mut device = MemDevice::new(rt.alloc(), 3, &[], &[])?;
     let mut bytes = [0; PAGE_BYTES];
@@ -66,7 +66,7 @@ fn device<R: Abort + AllocGlobal>(rt: &R) -> Result<MemDevice, AllocError> {
     Ok(device)
 }
 
-/// The byte there, of the device's last block.
+/// That byte of the device's last block.
 fn stored<R: Abort>(rt: &R, device: &mut MemDevice) -> u8 {
     let mut bytes = [0; PAGE_BYTES];
     assert!(rt; device.blocks() == 3);

@@ -1,4 +1,4 @@
-//! A caller of `driver`: a sink that takes no answer. The device is asked for nothing that comes behind the first.
+//! A caller of `driver`: a sink that takes no answer. The device is asked for nothing after the first answer.
 
 ghost use Rattle.std.specs.Prelude.{◌≡◌, []};
 
@@ -43,7 +43,7 @@ impl Sink for Deaf {
     ghost further = { λ a b c ps qs first second. tt };
 }
 
-// A task is started, which is answered, and then reads a page of a file. The device's first read fails.
+// A task is started, which is answered. Then it reads a page of a file. The device's first read fails.
 #[test]
 fn nothing_is_done_for_an_answer_that_nobody_takes(rt: HostRuntime) -> Result<(), Fail> {
     let mut device = MemDevice::new(rt.alloc(), 3, &[1], &[])?;

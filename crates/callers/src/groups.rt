@@ -5,7 +5,7 @@ use machine::id::GroupId;
 use machine::refusal::Refusal;
 use std::test::Fail;
 
-/// Makes the group of a path, or tells why there can be none.
+/// Makes the group of a path, or says why it can't be made.
 fn make(tree: &mut Tree, path: &str) -> Result<GroupId, Refusal> {
     let parent = tree.parent_for(path)?;
     match tree.space_refusal(parent) {
@@ -14,7 +14,7 @@ fn make(tree: &mut Tree, path: &str) -> Result<GroupId, Refusal> {
     }
 }
 
-/// Removes the group of a path, where there is one that can be removed.
+/// Removes the group of a path, if there is one that can be removed.
 fn remove(tree: &mut Tree, path: &str) -> bool {
     match tree.find(path) {
         Some(group) if group != GroupId::ROOT && !tree.has_children(group) => {

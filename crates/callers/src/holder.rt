@@ -57,7 +57,7 @@ fn is_coming(state: &State, ticket: TicketId) -> bool
     }
 }
 
-/// The file's page begins to be read in.
+/// Begins to read in the file's page.
 fn begin<R: Abort + AllocGlobal>(rt: &R, state: &mut State) -> InTicket {
     state.is_joined();
     assert!(rt; has_page(state, FILE_PAGE));
@@ -76,13 +76,13 @@ fn begin<R: Abort + AllocGlobal>(rt: &R, state: &mut State) -> InTicket {
     ticket
 }
 
-/// Its read-in ends so.
+/// Ends the read-in of the ticket, with this end.
 fn end<R: Abort>(rt: &R, state: &mut State, ticket: InTicket, end: End) {
     assert!(rt; is_coming(state, ticket.number()));
     let _ = state.settle_in(ticket, end);
 }
 
-/// The task writes a byte where it shows nothing.
+/// The task writes a byte to a virtual page that maps nothing.
 fn make<R: Abort>(rt: &R, state: &mut State) {
     state.is_joined();
     assert!(rt; is_alive(state, TASK));
@@ -101,13 +101,13 @@ fn a_frame_tells_the_page_that_is_held_in_it(rt: HostRuntime) -> Result<(), Fail
     assert!(rt; state.spaces().number_refusal(TASK).is_none());
     assert!(rt; state.spawn(TASK, GroupId::ROOT).is_ok());
 
-    // A page that is being read in is not held yet, and where the read-in fails there is no page.
+    // A page that is being read in is not held yet. If the read-in fails, there is no page.
     let ticket = begin(&rt, &mut state);
     assert_eq!(rt; (state.pages().holder(0), state.free_frames()), (None, 0));
     end(&rt, &mut state, ticket, End::OnBlock);
     assert_eq!(rt; (state.pages().holder(0), state.free_frames()), (None, 1));
 
-    // A page is held until it goes, and then another one in the same frame.
+    // A page is held until it is freed. Then another one is held in the same frame.
     make(&rt, &mut state);
     assert_eq!(rt; state.pages().holder(0), Some(shown(&rt, &state, TASK)));
     assert_eq!(rt; state.pages().holder(1), None);

@@ -1,5 +1,5 @@
-//! Callers of libraries, a test each, as the pages of those crates show them. They stand here and not in
-//! the crates, since a crate with tests is proved twice.
+//! Callers of libraries, with a test each, as the pages of those crates show them. They are here and not in the
+//! crates, since a crate with tests is proved twice.
 #![tactic(auto)]
 
 #[cfg(test)]

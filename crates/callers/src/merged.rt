@@ -11,7 +11,7 @@ use std::alloc::Global;
 use std::test::Fail;
 use turns::automaton::spend;
 
-/// Three frames, four swap blocks, and room for so many entries; task 1 is in the root.
+/// Three frames, four swap blocks, and room for this number of entries. Task 1 is in the root.
 fn open(alloc: Global, trace: u32) -> Result<Book, Refusal> {
     Book::open(
         alloc,
@@ -40,7 +40,8 @@ fn spawn(book: &mut Book, pass: &mut Pass) {
     }
 }
 
-/// An access to a page of task 1: the byte, and the frame that was hit. None where the page is not there, or where it is refused.
+/// Accesses a page of task 1. Returns the byte, and the frame that was hit. `None` if the page is not there, or if
+/// the access is refused.
 fn access(book: &mut Book, pass: &mut Pass, page: u32, op: Op) -> Option<(u8, Option<u32>)> {
     pass.reserve(2).ok()?;
     let place = Place::Virtual { page, offset: 0 };
@@ -73,7 +74,7 @@ fn write(book: &mut Book, pass: &mut Pass, page: u32, byte: u8) -> Option<(u8, O
     access(book, pass, page, Op::Write(byte))
 }
 
-/// Marks the frame. Whether that was answered Ok.
+/// Marks the frame. Returns whether the answer was Ok.
 fn merge(book: &mut Book, pass: &mut Pass, frame: u32) -> bool {
     if pass.reserve(1).is_err() {
         return false;
@@ -91,7 +92,7 @@ fn merge(book: &mut Book, pass: &mut Pass, frame: u32) -> bool {
     }
 }
 
-/// One page is written out.
+/// Writes out one page.
 fn evict(book: &mut Book, pass: &mut Pass) {
     if pass.reserve(2).is_err() {
         return;
@@ -114,7 +115,7 @@ fn held(book: &mut Book, pass: &mut Pass) -> [bool; 3] {
     ]
 }
 
-/// Pages 0 to 2 with the bytes 10 to 12. The frame of page 0.
+/// Makes pages 0 to 2 with the bytes 10 to 12. Returns the frame of page 0.
 fn fill(book: &mut Book, pass: &mut Pass) -> Option<u32> {
     spawn(book, pass);
     write(book, pass, 0, 10);
@@ -126,7 +127,7 @@ fn fill(book: &mut Book, pass: &mut Pass) -> Option<u32> {
     first.1
 }
 
-/// Which pages stay where nothing is merged.
+/// Which pages stay if nothing is merged.
 fn unmerged(book: &mut Book, pass: &mut Pass) -> [bool; 3] {
     fill(book, pass);
     evict(book, pass);
@@ -145,7 +146,8 @@ fn a_hit_marks_nothing_by_itself(rt: HostRuntime) -> Result<(), Fail> {
     Ok(())
 }
 
-/// Which stay where page 0 is marked; and how much more the pass keeps, and stands in the trace, for that.
+/// Returns which pages stay if page 0 is marked. Also returns how many more requests the pass keeps for that, and
+/// how many more entries the trace has.
 fn merged(book: &mut Book, pass: &mut Pass) -> ([bool; 3], usize, usize) {
     let first = fill(book, pass);
     let kept = pass.kept().len();
@@ -171,8 +173,8 @@ fn a_merge_marks_the_page_of_its_frame(rt: HostRuntime) -> Result<(), Fail> {
     Ok(())
 }
 
-/// Page 3 is in the frame that page 0 had, when that is marked. Then two pages leave. Whether page 3 was there, and what
-/// is read then.
+/// Page 3 is in the frame that page 0 had, when that frame is marked. Then two pages are evicted. Returns whether
+/// page 3 was there, and what is read after that.
 fn given_again(book: &mut Book, pass: &mut Pass) -> (bool, [Option<u8>; 3]) {
     let first = fill(book, pass);
     if pass.reserve(1).is_ok() {
@@ -215,7 +217,7 @@ fn a_frame_that_is_given_out_again_marks_its_new_page(rt: HostRuntime) -> Result
     Ok(())
 }
 
-/// The trace is full. What is answered to a read; and to merges, of a frame, and of none.
+/// The trace is full. Returns the answers to a read, and to merges of a frame and of no frame.
 fn full(book: &mut Book, pass: &mut Pass) -> (bool, [bool; 2], usize) {
     fill(book, pass);
     let refused = read(book, pass, 0).is_none();

@@ -80,7 +80,8 @@ fn without_go_all_is_setup(rt: HostRuntime) -> Result<(), Fail> {
     Ok(())
 }
 
-/// A script in which each of so many tasks frees the same number of pages, one task after the other, the greatest number first.
+/// A script in which each of `tasks` tasks frees `pages` pages. Each page is freed by one task after the other, the
+/// greatest number first.
 fn of_many_tasks(alloc: Global, tasks: u32, pages: u32) -> Result<String, AllocError> {
     let mut text = String::from_str(alloc, "go\n")?;
     for page in 0..pages {

@@ -1,4 +1,4 @@
-//! A caller of `page_state`: a page that two tasks show.
+//! A caller of `page_state`: a page that two tasks map.
 
 ghost use Rattle.std.specs.Prelude.{◌≡◌, ◌<◌, true, Some};
 ghost use Rattle.machine.specs.Access.{page_size};
@@ -62,7 +62,7 @@ fn is_held(state: &State, page: PageId) -> bool
     }
 }
 
-/// The page that the task's first virtual page shows, which is in a frame.
+/// The page that the task's first virtual page maps, which is in a frame.
 pub fn shown<R: Abort>(rt: &R, state: &State, task: TaskId) -> PageId
     ensures shown { mapped_at state.now.tables.page_tables task.0 0 ≡ Some result.0 }
     ensures held { is_held_in state.now.tables.pages result.0 ≡ true }
@@ -74,14 +74,14 @@ pub fn shown<R: Abort>(rt: &R, state: &State, task: TaskId) -> PageId
     page
 }
 
-/// A byte of what the task's first virtual page shows.
+/// A byte of the page that the task's first virtual page maps.
 fn read<R: Abort>(rt: &R, state: &State, task: TaskId, offset: usize) -> u8
     requires { offset < page_size }
 {
     state.pages().read(shown(rt, state, task), offset)
 }
 
-/// A task of the root writes a byte, where it shows nothing, and forks a child.
+/// A task of the root writes a byte to a virtual page that maps nothing, and forks a child.
 fn fork<R: Abort>(rt: &R, state: &mut State) {
     state.is_joined();
     assert!(rt; state.spaces().number_refusal(PARENT).is_none());

@@ -6,7 +6,7 @@ use std::test::Fail;
 use std::thread::Threads;
 use subcommands::{Options, Verdict, run, run_script_on_threads};
 
-/// What a run of the script prints, what is said beside it, and its status.
+/// What a run of the script prints to `out` and to `err`, and its status.
 fn printed<R: Threads + Wait + Sync>(
     rt: &R,
     alloc: Global,

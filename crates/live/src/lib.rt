@@ -1,9 +1,9 @@
 //! Runs workers on threads: tasks, a shell and the daemon work at the same time. They share one book under one
 //! lock, and a device that is called outside the lock.
 //!
-//! Each worker has a [`Pass`], which keeps what the worker asked and what the book answered. The worker's own
-//! answers follow from what its pass keeps, by the same table of turns as in a schedule. At the end,
-//! [`Live::finish`] returns the trace of all that the workers did, with its audit.
+//! Each worker has a [`Pass`], which keeps what the worker asked and what the book answered. The table of turns,
+//! the same as in a schedule, ties what the worker answers to what its pass keeps. At the end, [`Live::finish`]
+//! returns the trace of all that the workers did, with its audit.
 //!
 //! One run of the machine led to this trace. Each pass keeps what that run gave its worker, in order, including
 //! refusals and paths. A history over all passes says so, and exists only in the proofs.

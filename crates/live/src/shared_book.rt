@@ -188,8 +188,8 @@ impl<L: Opened> SharedBook<L> {
         self.book.free_frames() < self.book.watermarks().low
     }
 
-    /// Whether the daemon has to run: it has to end, or free frames fell below the low watermark since it last
-    /// began and are below it now.
+    /// Whether the daemon has to run. It runs if it has to end. It also runs if free frames fell below the low
+    /// watermark since it last began, and are still below it.
     pub fn wants_daemon(&self) -> bool {
         self.is_stopped || (self.is_armed && self.is_low())
     }

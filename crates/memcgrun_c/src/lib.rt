@@ -1,10 +1,12 @@
-//! The work of `memcgrun` for programs in other languages: a script in, the answers and what is said beside them out, in
-//! buffers of the caller.
+//! The work of `memcgrun` for programs in other languages. A call takes a script, and puts its answers and messages
+//! into buffers of the caller.
 //!
-//! Each call runs a script over a new device, and keeps nothing. It writes as many bytes into a buffer as there is room
-//! for, and says how many there are, so that the caller can ask again with more room. These calls are not for users:
-//! `library/memcgrun.h` declares what users call, and `library/memcgrun.c` makes these calls for them. It owes them what no
-//! contract can ask of C: no pointer is null, no memory overlaps another, each length is below 2^63, and each `bool` is 0 or 1.
+//! Each call runs a script over a new device, and keeps nothing. It fills each buffer as far as there is room, and
+//! says how many bytes there are. So the caller can ask again with more room.
+//!
+//! These calls are not for users: `library/memcgrun.h` declares what users call, and `library/memcgrun.c` makes
+//! these calls for them. That file owes them what no contract can ask of C. No pointer is null, no memory overlaps
+//! another, each length is below 2^63, and each `bool` is 0 or 1.
 #![tactic(auto)]
 
 mod said;
@@ -34,10 +36,10 @@ use subcommands::{
     Checked, Drawing, Fault, Options, Placement, SCRIPT_BYTES, chart, check_script, run_script,
 };
 
-/// What stands for the name of the script's file.
+/// The name that is used for the script's file.
 const NAME: &str = "script";
 
-/// How many bytes there are, of which a buffer may have taken only the first.
+/// How many bytes each text has. A buffer may have taken only the first of them.
 #[repr(C)]
 #[derive(Clone, Copy)]
 pub struct Lengths {
@@ -45,19 +47,20 @@ pub struct Lengths {
     pub err: usize,
 }
 
-/// What is asked of a run beside its answers, by the program's options of these names.
+/// What a caller asks of a run besides its answers, by the program's options of these names.
 #[repr(C)]
 #[derive(Clone, Copy)]
 pub struct Asked {
     /// The most turns that a line takes.
     pub turns: u32,
-    /// The number and the words of its line of the script come before each line of an answer.
+    /// Each line of an answer begins with the number and the words of its line of the script.
     pub labels: bool,
     /// The first line that is refused ends the run, and is its fault.
     pub strict: bool,
-    /// Pages that are read in are placed as Linux does.
+    /// Pages that are read in are placed as Linux places them.
     pub as_linux: bool,
-    /// A line says why each line was refused and each task killed, and a second one says more of a faulty line.
+    /// For each line that was refused and each task that was killed, a line says why. A second line says more about
+    /// a faulty line.
     pub explain: bool,
     /// Bytes that tasks read are left out.
     pub quiet: bool,
@@ -111,7 +114,7 @@ fn is_too_long(script: &[u8]) -> bool
     script.len() as u64 > SCRIPT_BYTES
 }
 
-/// Copies as many bytes as there is room for.
+/// Copies the bytes for which there is room.
 fn fill(buffer: &mut [u8], bytes: &[u8])
     ensures got { Got buffer.old buffer.new bytes.now }
     ensures nothing { bytes.now ≡ [] → buffer.new ≡ buffer.old }
@@ -122,7 +125,7 @@ fn fill(buffer: &mut [u8], bytes: &[u8])
     front.copy_from_slice(taken);
 }
 
-/// Copies both texts, and says how long they are.
+/// Copies both texts, and returns their lengths.
 fn give(answers: &[u8], told: &[u8], out: &mut [u8], err: &mut [u8]) -> Lengths
     ensures out { Gives out.old out.new result.out answers.now }
     ensures nothing { answers.now ≡ [] → (result.out ≡ 0) × (out.new ≡ out.old) }
@@ -159,14 +162,14 @@ fn run(
     }
     run_script(alloc, options_of(asked), NAME, script, answers, said)?;
     if said.is_cut {
-        // A run is whole only with all that was said of it.
+        // A run is whole only with all its messages.
         answers.clear();
         return Err(Fault::Script(ScriptFault::Memory));
     }
     Ok(())
 }
 
-/// The status of that, with the lines that say why it failed.
+/// Runs a script and returns the status. If the run fails, the messages get the lines that say why.
 fn schedule(
     alloc: Global,
     asked: Asked,
@@ -194,7 +197,7 @@ fn schedule(
     }
 }
 
-/// Runs a script over a new device, as `memcgrun schedule` does, and gives its answers.
+/// Runs a script over a new device, as `memcgrun schedule` does, and returns its answers.
 #[unsafe(no_mangle)]
 pub extern "C" fn memcgrun_proved_schedule(
     alloc: Global,
@@ -209,19 +212,21 @@ pub extern "C" fn memcgrun_proved_schedule(
     // OK: `out` got all that the script prints; with labels the bytes are only tested.
     ensures sound { result ≡ OK → asked.now.labels ≡ false → (bytes : List ℕ) × PrintsScript (options_of asked.now) script.now (Some []) (Some bytes) × Gives out.old out.new lengths.new.out bytes }
     ensures silent { result ≡ OK → speaks (options_of asked.now) ≡ false → (lengths.new.err ≡ 0) × (err.new ≡ err.old) }
-    // BAD_SCRIPT: the script can't be run, and of such a script there is no other status, if memory does not lack. Nothing was run.
+    // BAD_SCRIPT: the script can't be run, and nothing was run. Such a script has no other status, unless memory
+    // runs out.
     ensures bad { result ≡ BAD_SCRIPT → IsUnsound script.now }
     ensures unsound { IsUnsound script.now → ((result ≡ BAD_SCRIPT) ⊎ (result ≡ NO_MEMORY)) × (lengths.new.out ≡ 0) × (out.new ≡ out.old) }
-    // REFUSED: the run was strict, and `out` got the answers up to the first that refuses something, and that one too.
+    // REFUSED: the run was strict. `out` got the answers up to the first that refuses something, and that one too.
     ensures strict { result ≡ REFUSED → asked.now.strict ≡ true }
     ensures refused { result ≡ REFUSED → asked.now.labels ≡ false → (bytes : List ℕ) × EndsScript (options_of asked.now) script.now (Some []) (Some bytes) × Gives out.old out.new lengths.new.out bytes }
     // NO_MEMORY: `out` got the beginning of what the script prints, or nothing.
     ensures cut { result ≡ NO_MEMORY → asked.now.labels ≡ false → (bytes : List ℕ) × PrintsPart (options_of asked.now) script.now (Some []) (Some bytes) × Gives out.old out.new lengths.new.out bytes }
-    // `err` got all lines of the reason: of a bad script nothing else, of a refused line after what the options ask for. NO_MEMORY: maybe only their beginning.
+    // `err` got all lines of the reason. For a bad script it got nothing else. For a refused line it got before
+    // them what the options ask for. For NO_MEMORY it may have got only their beginning.
     ensures told { result ≡ BAD_SCRIPT → (text : List ℕ) × Tells (options_of asked.now) (codes "script") script.now [] text result × Gives err.old err.new lengths.new.err text }
     ensures told_last { result ≡ REFUSED → (before text : List ℕ) × (speaks (options_of asked.now) ≡ false → before ≡ []) × Tells (options_of asked.now) (codes "script") script.now before text result × Gives err.old err.new lengths.new.err text }
     ensures told_part { result ≡ NO_MEMORY → (before text : List ℕ) × (speaks (options_of asked.now) ≡ false → before ≡ []) × TellsPart (options_of asked.now) (codes "script") script.now before text × Gives err.old err.new lengths.new.err text }
-    // With labels too, and whatever is said: as many bytes as there is room for, and their number.
+    // With labels too, and with any messages: the bytes for which there is room, and their number.
     ensures out { (bytes : List ℕ) × Gives out.old out.new lengths.new.out bytes }
     ensures err { (text : List ℕ) × Gives err.old err.new lengths.new.err text }
 {
@@ -251,7 +256,8 @@ fn draw(
     chart(alloc, chart_options_of(asked), kind, NAME, script, drawn)
 }
 
-/// The status of that, with the lines that say why it failed. Then nothing is drawn.
+/// Draws a chart and returns the status. If this fails, nothing is drawn, and the messages get the lines that say
+/// why.
 fn chart_status(
     alloc: Global,
     kind: Drawing,
@@ -290,9 +296,9 @@ fn drawing(table: bool) -> Drawing
     }
 }
 
-/// Runs a script over a new device, as `memcgrun chart` does, and gives what each group that it makes was charged with
-/// after each of its lines: as a table of comma-separated values, or as a picture, SVG. Of what is asked it takes the turns, the
-/// placement and whether to explain a faulty line.
+/// Runs a script over a new device, as `memcgrun chart` does. Returns a table of comma-separated values, or a
+/// picture, SVG. It has the charges of each group that the script makes, after each line. Of what is asked, it uses
+/// the turns, the placement, and whether to explain a faulty line.
 #[unsafe(no_mangle)]
 pub extern "C" fn memcgrun_proved_chart(
     alloc: Global,
@@ -305,18 +311,18 @@ pub extern "C" fn memcgrun_proved_chart(
 ) -> u8
     // One of OK, BAD_SCRIPT and NO_MEMORY.
     ensures known { result ≤ NO_MEMORY }
-    // OK: if a table was asked for, `out` got it; how a picture looks is only tested. Nothing is told.
+    // OK: if a table was asked for, `out` got it; how a picture looks is only tested. `err` got nothing.
     ensures listed { result ≡ OK → table ≡ true → (bytes : List ℕ) × ListsScript (chart_options_of asked.now) script.now (Some []) (Some bytes) × Gives out.old out.new lengths.new.out bytes }
     ensures silent { result ≡ OK → (lengths.new.err ≡ 0) × (err.new ≡ err.old) }
-    // Else nothing is drawn.
+    // Otherwise nothing is drawn.
     ensures undrawn { result ≢ OK → (lengths.new.out ≡ 0) × (out.new ≡ out.old) }
-    // BAD_SCRIPT: the script can't be run, and of such a script there is no other status, if memory does not lack.
+    // BAD_SCRIPT: the script can't be run. Such a script has no other status, unless memory runs out.
     ensures bad { result ≡ BAD_SCRIPT → IsUnsound script.now }
     ensures unsound { IsUnsound script.now → (result ≡ BAD_SCRIPT) ⊎ (result ≡ NO_MEMORY) }
     // `err` got all lines of the reason; for NO_MEMORY maybe only their beginning.
     ensures told { result ≡ BAD_SCRIPT → (text : List ℕ) × Tells (chart_options_of asked.now) (codes "script") script.now [] text result × Gives err.old err.new lengths.new.err text }
     ensures told_part { result ≡ NO_MEMORY → (text : List ℕ) × TellsPart (chart_options_of asked.now) (codes "script") script.now [] text × Gives err.old err.new lengths.new.err text }
-    // A picture too: as many bytes as there is room for, and their number.
+    // For a picture too: the bytes for which there is room, and their number.
     ensures out { (bytes : List ℕ) × Gives out.old out.new lengths.new.out bytes }
 {
     let mut drawn = Vec::new(alloc);
@@ -327,7 +333,7 @@ pub extern "C" fn memcgrun_proved_chart(
     status
 }
 
-/// Holds the answers of a script against those that it expects, unless it is too long.
+/// Compares the answers of a script with those that it expects, unless it is too long.
 fn judge(
     alloc: Global,
     placement: Placement,
@@ -345,7 +351,7 @@ fn judge(
     check_script(alloc, placement, NAME, script, line)
 }
 
-/// Adds the lines that say why, after the name that stands for the script's, and gives the status of that.
+/// Adds the lines that say why, after the name that is used for the script's file. Returns the status.
 fn tell_named(why: &Fault, said: &mut Said) -> u8
     requires unsaid { said.old.bytes.items ≡ [] }
     ensures either { (result ≡ status_by why.now) ⊎ (result ≡ NO_MEMORY) }
@@ -357,7 +363,8 @@ fn tell_named(why: &Fault, said: &mut Said) -> u8
     }
 }
 
-/// The status of that, with the lines that say why it failed. Then there is no line of a check.
+/// Checks a script and returns the status. If it can't be judged, there is no line of a check, and the messages get
+/// the lines that say why.
 fn check_status(
     alloc: Global,
     placement: Placement,
@@ -385,8 +392,9 @@ fn check_status(
     }
 }
 
-/// Runs a script over a new device, as `memcgrun check` does, and holds its answers against those that its lines `#> ..`
-/// expect. `out` has the line that says what comes of it, and `err`, if it could not be run, why.
+/// Runs a script over a new device, as `memcgrun check` does, and compares its answers with those that its lines
+/// `#> ..` expect. `out` gets the line with the result. If the script could not be run, `err` gets the lines that
+/// say why.
 #[unsafe(no_mangle)]
 pub extern "C" fn memcgrun_proved_check(
     alloc: Global,
@@ -400,17 +408,17 @@ pub extern "C" fn memcgrun_proved_check(
     ensures known { (result ≤ NO_MEMORY) ⊎ (result ≡ DIFFERS) }
     // OK: the answers of the plain machine print exactly what the script expects.
     ensures met { result ≡ OK → PrintsScript (plain_as (placement_of as_linux)) script.now (Some []) (Some (expected_of script.now)) }
-    // DIFFERS: the script was run; that its answers differ from those that it expects is only tested.
+    // DIFFERS: the script was run; that its answers differ from the expected ones is only tested.
     ensures differs { result ≡ DIFFERS → IsFaultless Schedule (lines script.now) }
     ensures silent { (result ≡ OK) ⊎ (result ≡ DIFFERS) → (lengths.new.err ≡ 0) × (err.new ≡ err.old) }
-    // Else nothing was judged.
+    // Otherwise nothing was judged.
     ensures unjudged { (result ≡ BAD_SCRIPT) ⊎ (result ≡ NO_MEMORY) → (lengths.new.out ≡ 0) × (out.new ≡ out.old) }
-    // BAD_SCRIPT: the script can't be run, and of such a script there is no other status, if memory does not lack.
+    // BAD_SCRIPT: the script can't be run. Such a script has no other status, unless memory runs out.
     ensures bad { result ≡ BAD_SCRIPT → IsUnsound script.now }
     ensures unsound { IsUnsound script.now → (result ≡ BAD_SCRIPT) ⊎ (result ≡ NO_MEMORY) }
     // `err` got `script: ` and then all lines of the reason.
     ensures told { result ≡ BAD_SCRIPT → (text : List ℕ) × Tells (plain_as (placement_of as_linux)) [] script.now (codes "script: ") text result × Gives err.old err.new lengths.new.err text }
-    // What the line says is only tested: as many bytes as there is room for, and their number.
+    // What the line says is only tested: `out` got the bytes for which there is room, and their number.
     ensures line { (bytes : List ℕ) × Gives out.old out.new lengths.new.out bytes }
     ensures fault { (text : List ℕ) × Gives err.old err.new lengths.new.err text }
 {

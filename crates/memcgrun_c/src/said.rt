@@ -1,4 +1,4 @@
-//! What is said beside the answers.
+//! The messages of a run, besides its answers.
 
 ghost use Rattle.std.specs.Prelude.{◌≡◌, ◌≢◌, ◌⊎◌, [], Some};
 ghost use Rattle.std.specs.Io.KnownBytes.{Appends};
@@ -13,11 +13,11 @@ use std::io;
 use std::io::Write;
 use subcommands::Fault;
 
-/// What is said beside the answers. A run goes on if some of it can't be kept, so this remembers that.
+/// The messages of a run. The run continues if some of them can't be kept, so this remembers that.
 #[derive(Drop)]
 pub struct Said {
     pub bytes: Vec<u8>,
-    /// There was no memory for some of it.
+    /// There was no memory for some of them.
     pub is_cut: bool,
 }
 
@@ -59,7 +59,7 @@ fn status_by(why: &Fault) -> u8
         | Fault::Script(ScriptFault::At { .. })
         | Fault::Placed(ScriptFault::At { .. }, _) => BAD_SCRIPT,
         Fault::Refused(_) => REFUSED,
-        // What can't be written here can't be kept.
+        // A write fails here if the bytes can't be kept.
         Fault::Unreadable(_)
         | Fault::Script(ScriptFault::Memory)
         | Fault::Placed(ScriptFault::Memory, _)
@@ -68,8 +68,8 @@ fn status_by(why: &Fault) -> u8
     }
 }
 
-/// Adds the lines that say why a script was not run to its end, and gives the status of that. If something that was to be said
-/// could not be kept, the status says so.
+/// Adds the lines that say why a script was not run to its end, and returns the status. If a message could not be
+/// kept, the status says so.
 pub fn tell(why: &Fault, said: &mut Said) -> u8
     ensures either { (result ≡ status_by why.now) ⊎ (result ≡ NO_MEMORY) }
     ensures whole { result ≢ NO_MEMORY → AllTold (Appends (Some said.old.bytes.items) (Some said.new.bytes.items)) why.now }

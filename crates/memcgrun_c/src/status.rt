@@ -1,4 +1,4 @@
-//! What a call answers, by the numbers of `memcgrun.h`.
+//! What a call returns, by the numbers of `memcgrun.h`.
 
 /// All was done.
 pub const OK: u8 = 0;

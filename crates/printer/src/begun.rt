@@ -6,7 +6,7 @@ use indexmap::IndexMap;
 use scripts::number_of;
 use std::alloc::{AllocError, Global};
 
-/// By actor the step that began its latest command, of the steps that were looked at so far.
+/// For each actor, the step that began its latest command, among the steps that were looked at so far.
 #[derive(Drop)]
 pub struct Begun {
     steps: IndexMap<u64, usize>,
@@ -22,7 +22,7 @@ impl Begun {
         }
     }
 
-    /// Looks at the steps before this one. A step that began nothing has to be passed by before.
+    /// Looks at the steps before this one. A step that began nothing has to be passed by first.
     pub fn look(&mut self, source: Source<'_>, step: usize) -> Result<(), AllocError> {
         for at in self.seen..step {
             if let Some((actor, _)) = source.schedule.begun_at(at) {
@@ -33,7 +33,7 @@ impl Begun {
         Ok(())
     }
 
-    /// The step began nothing.
+    /// Notes that the step began nothing.
     pub fn pass_by(&mut self, step: usize) {
         self.seen = self.seen.max(step.saturating_add(1));
     }

@@ -20,7 +20,8 @@ pub fn is_byte(answer: &Answer) -> bool
     }
 }
 
-/// Whether the word says that a line did not do what it asks for. That a task was killed is an event of the machine.
+/// Whether the word says that a line did not do what it asks for. A killed task is an event of the machine, and not
+/// such a word.
 fn is_refusing(word: Word) -> bool
     ensures { result ≡ is_refusing word }
 {

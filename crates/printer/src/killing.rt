@@ -1,4 +1,4 @@
-//! Why a task was killed, as people are told.
+//! Why a task was killed, in words for people.
 
 use book::Victim;
 use charts::Size;
@@ -9,15 +9,15 @@ use machine::id::TaskId;
 use std::fmt;
 use std::fmt::{Formatter, Write};
 
-/// Who died, as an answer tells it.
+/// Who died, as an answer reports it.
 #[derive(Clone, Copy)]
 pub struct Killed {
     pub victim: TaskId,
-    /// How many died with a group that was killed as one, the victim among them. `None` where it died alone.
+    /// How many died with a group that was killed as one, including the victim. `None` if the victim died alone.
     pub with_group: Option<u32>,
 }
 
-/// The kill that an answer tells, if it tells one.
+/// The kill that an answer reports, if it reports one.
 pub fn killed_in(answer: &Answer) -> Option<Killed> {
     match answer {
         Answer::Kill(task) => Some(Killed {
@@ -42,23 +42,23 @@ impl fmt::Display for Killed {
     }
 }
 
-/// A task that is killed so that there is room, and the group under which room is wanted, as they were before.
+/// A task that is killed to make room, and the group under which room is needed, as they were before.
 #[derive(Clone, Copy)]
 pub struct Killing<'s> {
     pub victim: Victim,
-    /// Why room is wanted.
+    /// Why room is needed.
     pub cause: Cause,
-    /// The path of the group under which it is wanted.
+    /// The path of the group under which room is needed.
     pub path: &'s str,
     pub max: Amount,
     /// Pages that are charged to it and below it.
     pub usage: u64,
-    /// The path of the group that dies with the task. `None` where the task dies alone.
+    /// The path of the group that dies with the task. `None` if the task dies alone.
     pub group: Option<&'s str>,
 }
 
 impl Killing<'_> {
-    /// How large the task was, and among how many.
+    /// Writes how large the task was, and among how many tasks.
     fn write_choice<W: Write>(&self, f: &mut Formatter<W>) -> fmt::Result {
         let pages = self.victim.pages;
         let ending = if pages == 1 { "" } else { "s" };
@@ -68,7 +68,7 @@ impl Killing<'_> {
         }
     }
 
-    /// Where it was, and why room is wanted there.
+    /// Writes where the task was, and why room is needed there.
     fn write_limit<W: Write>(&self, f: &mut Formatter<W>) -> fmt::Result {
         let path = self.path;
         match (self.cause, self.max) {

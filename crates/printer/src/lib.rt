@@ -1,4 +1,4 @@
-//! The sink of a run that prints its answers as they come, and says beside them what its options ask for.
+//! The sink of a run. It prints the answers as they come, and writes what the options ask for to a second writer.
 //!
 //! [`print_run`] runs a schedule into it. [`write_bytes`] and [`write_line`] hand bytes to a writer.
 #![tactic(auto)]

@@ -1,4 +1,4 @@
-//! How many pages went to the device and came from it.
+//! How many pages were written to the device and read from it.
 
 ghost use Rattle.std.specs.Prelude.{◌≡◌};
 
@@ -9,7 +9,7 @@ use machine::reply::Reply;
 use std::io;
 use std::io::Write;
 
-/// Calls of a device that went well.
+/// Calls of a device that succeeded.
 #[derive(Clone, Copy, Default)]
 pub struct Calls {
     /// Writes to swap blocks.
@@ -18,13 +18,14 @@ pub struct Calls {
     home: u64,
 }
 
-/// A device, with how many blocks were written. No entry of a trace says to which block a page went.
+/// A device, with the number of blocks that were written. No entry of a trace says to which block a page was
+/// written.
 #[derive(Drop)]
 pub struct Metered<'d, D> {
     pub device: &'d mut D,
-    /// How many blocks are for swap, the first ones.
+    /// How many blocks are swap blocks. These are the first ones.
     pub swap: u32,
-    /// What went well so far.
+    /// The calls that succeeded so far.
     pub calls: Calls,
 }
 
@@ -73,13 +74,13 @@ impl<'d, D: BlockDevice> BlockDevice for Metered<'d, D> {
 pub struct Moved {
     /// Pages that arrived from the device.
     read_in: u64,
-    /// Pages of files that were let go, being clean.
+    /// Clean pages of files that were dropped.
     dropped: u64,
     written: Calls,
 }
 
 impl Moved {
-    /// By the entries of its trace, and the calls of its device.
+    /// From the entries of the run's trace, and the calls of its device.
     pub fn of(entries: &[Entry], written: Calls) -> Moved {
         let arrived = entries.iter().filter(|entry| is_arrival(entry));
         let read_in = arrived.count() as u64;
@@ -91,7 +92,7 @@ impl Moved {
         }
     }
 
-    /// A line a number.
+    /// Writes a line for each number.
     pub fn write<W: Write>(&self, to: &mut W) -> io::Result<()> {
         writeln!(to, "pages read in: {}", self.read_in)?;
         writeln!(to, "pages written to swap: {}", self.written.to_swap)?;

@@ -16,13 +16,14 @@ use std::io::Write;
 #[derive(Clone, Copy)]
 struct Seen<'s> {
     path: &'s str,
-    /// The most pages that were charged to one of them and below it behind a step.
+    /// The most pages that were charged to one of them and below it after a step.
     peak: u64,
-    /// The number of the group that had the path behind the last step.
+    /// The number of the group that had the path after the last step.
     number: Option<u32>,
-    /// The number of its youngest generation there. No group is aged in the step that makes it, nor the root in the first.
+    /// The number of its youngest generation then. A group is not aged in the step that makes it, nor the root in
+    /// the first step.
     max_seq: u64,
-    /// Whether its peak is told.
+    /// Whether its peak is printed.
     is_told: bool,
 }
 
@@ -32,7 +33,7 @@ pub struct Observed<'s> {
     groups: Vec<Seen<'s>>,
     /// How often a group made a younger generation.
     agings: u64,
-    /// Whom the relief that was asked for last kills, if it kills anybody.
+    /// The kill of the relief that was asked for last, if it kills a task.
     doomed: Option<Killing<'s>>,
 }
 
@@ -47,7 +48,7 @@ impl<'s> Seen<'s> {
         }
     }
 
-    /// Looks at the group that has the path, and says how often it was aged since the last look.
+    /// Looks at the group that has the path, and returns how often it was aged since the last look.
     fn look(&mut self, book: &Book) -> u64 {
         let (Some(look), Some(max_seq)) = (book.look(self.path), book.max_seq(self.path)) else {
             self.number = None;
@@ -65,7 +66,7 @@ impl<'s> Seen<'s> {
 }
 
 impl<'s> Observed<'s> {
-    /// What is to be looked at of the groups that the steps make, where the options ask for it.
+    /// What is to be looked at of the groups that the steps make, if the options ask for it.
     pub fn asked(
         alloc: Global,
         options: Options,
@@ -86,7 +87,7 @@ impl<'s> Observed<'s> {
         }
     }
 
-    /// Of the groups that the steps make, and of the root, nothing was seen yet.
+    /// The groups that the steps make, and the root. Nothing was seen of them yet.
     fn of(alloc: Global, schedule: &'s Schedule) -> Result<Observed<'s>, AllocError> {
         let paths = paths_of(alloc, schedule)?;
         let mut groups = Vec::new(alloc);
@@ -110,7 +111,7 @@ impl<'s> Observed<'s> {
         }
     }
 
-    /// A relief is asked for, for this cause.
+    /// Notes that a relief is asked for, for this cause.
     pub fn see_relief(&mut self, book: &Book, cause: Cause) {
         self.doomed = None;
         let Some(victim) = book.victim(cause) else {
@@ -130,7 +131,7 @@ impl<'s> Observed<'s> {
         });
     }
 
-    /// The path of the group of this number, and what is known of it, if it is one of those that are seen.
+    /// The path of the group with this number, and what is known of it, if it is one of the observed groups.
     fn group_of(&self, book: &Book, group: GroupId) -> Option<(&'s str, GroupLook)> {
         for seen in self.groups.iter() {
             if let Some(look) = book.look(seen.path) {
@@ -142,7 +143,7 @@ impl<'s> Observed<'s> {
         None
     }
 
-    /// How the task came to be killed, where the relief that was asked for last killed it.
+    /// Why the task was killed, if the relief that was asked for last killed it.
     pub fn killing_of(&self, task: TaskId) -> Option<Killing<'s>> {
         match self.doomed {
             Some(killing) if killing.victim.task == task => Some(killing),
@@ -150,7 +151,8 @@ impl<'s> Observed<'s> {
         }
     }
 
-    /// A line a number: how often groups were aged, and the greatest `memory.current` of each in bytes.
+    /// Writes a line for each number: how often groups were aged, and the greatest `memory.current` of each in
+    /// bytes.
     pub fn write<W: Write>(&self, to: &mut W) -> io::Result<()> {
         writeln!(to, "agings: {}", self.agings)?;
         for seen in self.groups.iter() {

@@ -1,4 +1,4 @@
-//! How a script is run, how its answers are shown, and what is said beside them.
+//! How a script is run, how its answers are shown, and what is said besides them.
 
 ghost use Rattle.std.specs.Prelude.{◌≡◌};
 ghost use Rattle.printer.specs.Asked.{plain};
@@ -6,30 +6,30 @@ ghost use Rattle.printer.specs.Asked.{plain};
 use machine::config::Placement;
 use machine::limit::USUAL_TURNS;
 
-/// How a script is run, how its answers are shown, and what is said beside them; by default they are shown as they are and
-/// nothing is said, and of a script's fault its line and its cause.
+/// How a script is run, how its answers are shown, and what is said besides them. By default, answers are shown as
+/// they are, and nothing else is said. A script's fault is reported with its line and its cause.
 #[derive(Clone, Copy, Debug, PartialEq, Eq)]
 pub struct Options {
-    /// What an audit of the run says, in one line behind the last answer.
+    /// One line after the last answer says what an audit of the run finds.
     pub audit: bool,
-    /// A line says of each line that is refused, and of each task that is killed, why, as it comes. A second line says of a script's fault which word is
-    /// wrong, and what its place asks for.
+    /// For each line that is refused and each task that is killed, a line says why, as it comes. For a script's
+    /// fault, a second line says which word is wrong, and what its place asks for.
     pub explain: bool,
-    /// The number of its line of the script stands before each line of an answer, and that line's words.
+    /// Each line of an answer begins with the number of its line of the script, and with that line's words.
     pub labels: bool,
-    /// The number of its line of the script stands before each line of an answer.
+    /// Each line of an answer begins with the number of its line of the script.
     pub lines: bool,
-    /// Where pages enter the generation lists that are read in.
+    /// Where pages that are read in enter the generation lists.
     pub placement: Placement,
-    /// How many lines are done of how many, on a terminal, while the run goes on.
+    /// A terminal shows how many of the lines are done, while the run continues.
     pub progress: bool,
     /// Bytes that tasks read are not printed.
     pub quiet: bool,
     /// The first line that is refused ends the run, and is its fault.
     pub strict: bool,
-    /// How much was done, in a few lines behind the last answer.
+    /// A few lines after the last answer say how much was done.
     pub summary: bool,
-    /// The most turns of a line that is run to its answer. What is not done by then goes on at later lines of its
+    /// The most turns of a line that is run to its answer. What is not done by then continues at later lines of its
     /// actor.
     pub turns: u32,
 }
@@ -57,7 +57,7 @@ impl Default for Options {
 impl Options {
     ghost use Rattle.printer.specs.Asked.{marks_lines, places_faults};
 
-    /// Whether something stands before the lines of answers.
+    /// Whether something comes before the lines of answers.
     pub(crate) fn marks_lines(self) -> bool
         ensures { result ≡ marks_lines self }
     {

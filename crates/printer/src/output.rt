@@ -1,4 +1,4 @@
-//! Bytes that go to a writer.
+//! Bytes that are written to a writer.
 
 ghost use Rattle.std.specs.Prelude.{OnOk};
 ghost use Rattle.std.specs.Io.KnownBytes.{Appends};
@@ -8,14 +8,14 @@ ghost use Rattle.printer.specs.Prints.{AppendsStart};
 use std::io;
 use std::io::{ErrorKind, Write};
 
-/// Writes all the bytes, in as few calls as the writer lets. Where it takes no more, it got the first of
-/// them, or none.
+/// Writes all the bytes, in the fewest calls that the writer allows. If the writer takes no more, it got the first
+/// of them, or none.
 pub fn write_bytes<W: Write>(writer: &mut W, bytes: &[u8]) -> io::Result<()>
     ensures whole { OnOk result (Appends (W.contents writer.old) (W.contents writer.new) bytes.now) }
     ensures start { AppendsStart (W.contents writer.old) (W.contents writer.new) bytes.now }
 {
     let mut at = 0;
-    // A call that is interrupted is made again; this ends, however often it is.
+    // An interrupted call is made again. This ends, however often it happens.
     for _ in 0..usize::MAX {
         if at == bytes.len() {
             return Ok(());

@@ -30,13 +30,12 @@ use std::io;
 use std::io::Write;
 use trace::{Trace, audit};
 
-/// How a terminal takes back what stands in its line.
+/// Makes a terminal erase its current line.
 pub const ERASE: &[u8] = b"\r\x1b[K";
 
-/// Where the answers of a run go. Each is written as it comes, in one piece.
+/// The sink of a run's answers. Each is written as it comes, in one piece.
 ///
-/// It owns no memory: the proof of [`print_run`] knows what the writers behind it hold only where none stands
-/// beside them.
+/// It owns no memory: the proof of [`print_run`] knows what its writers hold only if it has no memory besides them.
 #[derive(Drop)]
 struct Printer<'o, 'e, 's, 'l, 't, 'b, 'g, 'p, 'f, O: Write, E: Write> {
     out: &'o mut O,
@@ -46,11 +45,11 @@ struct Printer<'o, 'e, 's, 'l, 't, 'b, 'g, 'p, 'f, O: Write, E: Write> {
     texts: Texts<'l, 's>,
     /// What is written next.
     text: &'t mut String,
-    /// Which command each actor is at, where something asks for it.
+    /// Which command each actor is at, if something asks for it.
     begun: &'b mut Begun,
-    /// What was seen of groups, where something asks for it.
+    /// What was seen of groups, if something asks for it.
     observed: &'g mut Observed<'p>,
-    /// What a terminal shows of how many lines are done, in hundredths, if it shows any.
+    /// How many hundredths of the lines a terminal shows as done, if it shows any.
     shown: Option<usize>,
     /// How many of the steps are done, as far as is known.
     done: usize,
@@ -102,8 +101,8 @@ impl<'o, 'e, 's, 'l, 't, 'b, 'g, 'p, 'f, O: Write, E: Write> Printer<
         self.write_marked(step)
     }
 
-    /// Writes the lines that are to be written next, each behind the number of their line of the script, and behind its words
-    /// where these are asked for.
+    /// Writes the lines that are to be written next. Each begins with the number of its line of the script, and
+    /// with that line's words if they are asked for.
     fn write_marked(&mut self, step: usize) -> io::Result<()>
         requires { marks_lines self.old.options ≡ true }
         ensures out { self.new.out.ghost_name ≡ self.old.out.ghost_name }
@@ -126,7 +125,7 @@ impl<'o, 'e, 's, 'l, 't, 'b, 'g, 'p, 'f, O: Write, E: Write> Printer<
         write_bytes(self.out, marked.as_bytes())
     }
 
-    /// Takes back what a terminal shows.
+    /// Erases what a terminal shows.
     fn hide(&mut self)
         ensures out { self.new.out ≡ self.old.out }
         ensures err { self.new.err.ghost_name ≡ self.old.err.ghost_name }
@@ -136,12 +135,12 @@ impl<'o, 'e, 's, 'l, 't, 'b, 'g, 'p, 'f, O: Write, E: Write> Printer<
         ensures quiet { IsQuiet self.old.options self.old.shown self.new.shown (E.contents self.old.err.now) (E.contents self.new.err.now) }
     {
         if self.shown.take().is_some() {
-            // Nothing hangs on it: the run goes on where it can't be written.
+            // Nothing depends on it: the run continues if it can't be written.
             let _ = self.err.write_all(ERASE);
         }
     }
 
-    /// Shows on a terminal how many lines are done, where that is a hundredth more than it shows.
+    /// Shows on a terminal how many lines are done, if the number of hundredths has changed.
     fn show(&mut self, step: usize)
         ensures out { self.new.out ≡ self.old.out }
         ensures err { self.new.err.ghost_name ≡ self.old.err.ghost_name }
@@ -196,7 +195,7 @@ impl<'o, 'e, 's, 'l, 't, 'b, 'g, 'p, 'f, O: Write, E: Write> Printer<
         Ok(())
     }
 
-    /// What comes of an answer that refuses something: the end of a strict run, or a line that says why.
+    /// Handles an answer that refuses something: it ends a strict run, or a line says why.
     fn heed(&mut self, step: usize, actor: Actor, word: Word) -> Result<(), Stopped>
         ensures out { self.new.out.ghost_name ≡ self.old.out.ghost_name }
         ensures err { self.new.err.ghost_name ≡ self.old.err.ghost_name }
@@ -216,7 +215,7 @@ impl<'o, 'e, 's, 'l, 't, 'b, 'g, 'p, 'f, O: Write, E: Write> Printer<
         Ok(())
     }
 
-    /// A strict run ends there.
+    /// Ends a strict run at this step.
     fn end_at(&mut self, step: usize, actor: Actor, word: Word) -> Stopped
         ensures out { self.new.out ≡ self.old.out }
         ensures err { self.new.err ≡ self.old.err }
@@ -234,7 +233,7 @@ impl<'o, 'e, 's, 'l, 't, 'b, 'g, 'p, 'f, O: Write, E: Write> Printer<
         }
     }
 
-    /// Says which line was refused, and why, once all answers are out.
+    /// Says which line was refused, and why, after all answers are out.
     fn tell_why(&mut self, step: usize, actor: Actor, word: Word) -> Result<(), Stopped>
         requires { self.old.options.explain ≡ true }
         ensures out { self.new.out.ghost_name ≡ self.old.out.ghost_name }
@@ -250,7 +249,7 @@ impl<'o, 'e, 's, 'l, 't, 'b, 'g, 'p, 'f, O: Write, E: Write> Printer<
         self.say()
     }
 
-    /// Writes the text as a line beside the answers, once all of these are out.
+    /// Writes the text as a line of messages, after all answers are out.
     fn say(&mut self) -> Result<(), Stopped>
         requires { self.old.options.explain ≡ true }
         ensures out { self.new.out.ghost_name ≡ self.old.out.ghost_name }
@@ -263,12 +262,12 @@ impl<'o, 'e, 's, 'l, 't, 'b, 'g, 'p, 'f, O: Write, E: Write> Printer<
         if let Err(error) = self.out.flush() {
             return Err(Stopped::Unwritten(error));
         }
-        // Nothing hangs on it: the run goes on where it can't be written.
+        // Nothing depends on it: the run continues if it can't be written.
         let _ = write_line(self.err, self.text.as_bytes());
         Ok(())
     }
 
-    /// Says why a task was killed, where that was the answer and it is asked for.
+    /// Says why a task was killed, if that was the answer and the options ask for it.
     fn tell_kill(&mut self, step: usize, answer: &Answer) -> Result<(), Stopped>
         ensures out { self.new.out.ghost_name ≡ self.old.out.ghost_name }
         ensures err { self.new.err.ghost_name ≡ self.old.err.ghost_name }
@@ -291,7 +290,7 @@ impl<'o, 'e, 's, 'l, 't, 'b, 'g, 'p, 'f, O: Write, E: Write> Printer<
         }
     }
 
-    /// Makes the text say why the task was killed, and says whether anything is known of it.
+    /// Makes the text say why the task was killed, and returns whether anything is known of it.
     fn say_kill(&mut self, step: usize, killed: Killed) -> io::Result<bool>
         ensures out { self.new.out ≡ self.old.out }
         ensures err { self.new.err ≡ self.old.err }
@@ -312,7 +311,7 @@ impl<'o, 'e, 's, 'l, 't, 'b, 'g, 'p, 'f, O: Write, E: Write> Printer<
         Ok(true)
     }
 
-    /// Writes an answer, and what is to be said of it. The error is why no more are taken.
+    /// Writes an answer, and what is to be said about it. The error says why no more answers are taken.
     fn serve(&mut self, step: usize, reply: &Reply) -> Result<(), Stopped>
         ensures out { self.new.out.ghost_name ≡ self.old.out.ghost_name }
         ensures err { self.new.err.ghost_name ≡ self.old.err.ghost_name }
@@ -338,7 +337,7 @@ impl<'o, 'e, 's, 'l, 't, 'b, 'g, 'p, 'f, O: Write, E: Write> Printer<
         Ok(())
     }
 
-    /// How many commands were begun, those that were begun over another among them.
+    /// How many commands were begun, including those that were begun over another.
     fn count_begun(&self) -> u64 {
         let done = self.done;
         self.source
@@ -349,7 +348,8 @@ impl<'o, 'e, 's, 'l, 't, 'b, 'g, 'p, 'f, O: Write, E: Write> Printer<
             .count() as u64
     }
 
-    /// The run has come to its end, or was cut short: what is left to say is said. The error is why not all answers were taken.
+    /// Says what is left to say after the run has ended or was cut short. The error says why not all answers were
+    /// taken.
     fn end(&mut self, moved: Option<Moved>) -> Result<(), Stopped>
         ensures out { self.new.out.ghost_name ≡ self.old.out.ghost_name }
         ensures err { self.new.err.ghost_name ≡ self.old.err.ghost_name }
@@ -358,7 +358,7 @@ impl<'o, 'e, 's, 'l, 't, 'b, 'g, 'p, 'f, O: Write, E: Write> Printer<
         ensures quiet { speaks self.old.options ≡ false → self.old.shown ≡ None → E.contents self.new.err.now ≡ E.contents self.old.err.now }
     {
         self.hide();
-        // What the writer still has comes before anything that is said beside it, also where it took no more.
+        // The answers that the writer still has come before any message, even if the writer took no more.
         let flushed = self.out.flush();
         let stopped = self.stopped.take();
         if moved.is_none() && self.options.progress {
@@ -370,7 +370,7 @@ impl<'o, 'e, 's, 'l, 't, 'b, 'g, 'p, 'f, O: Write, E: Write> Printer<
         stopped_by(stopped, flushed)
     }
 
-    /// Writes what an audit of the run says, where it is asked for.
+    /// Writes what an audit of the run says, if it is asked for.
     fn tell_audit(&mut self, trace: &Trace) -> io::Result<()>
         requires { Passes (first_of (reverse trace.now.entries)) (reverse trace.now.entries) }
         ensures out { self.new.out.ghost_name ≡ self.old.out.ghost_name }
@@ -387,13 +387,13 @@ impl<'o, 'e, 's, 'l, 't, 'b, 'g, 'p, 'f, O: Write, E: Write> Printer<
         self.hide();
         match audit(trace) {
             Ok(()) => write_bytes(self.out, b"audit ok\n"),
-            // It finds nothing wrong where the device keeps its promise.
+            // It finds nothing wrong if the device keeps its promise.
             Err(_) => unreachable!(),
         }
     }
 
-    /// The run has come to its end, or was cut short: what an audit of it says, and what is left to say. The error
-    /// is why an answer, or that, could not be written, or that a strict run ended.
+    /// Writes what an audit of the run says, and what is left to say, after the run has ended or was cut short. The
+    /// error says why an answer or the line of the audit could not be written, or that a strict run ended.
     fn conclude(&mut self, ran: &Result<Trace, Stop>, moved: Option<Moved>) -> Result<(), Stopped>
         requires { IfOk ran.now (λ trace. Passes (first_of (reverse trace.entries)) (reverse trace.entries)) }
         ensures out { self.new.out.ghost_name ≡ self.old.out.ghost_name }
@@ -415,7 +415,7 @@ impl<'o, 'e, 's, 'l, 't, 'b, 'g, 'p, 'f, O: Write, E: Write> Printer<
         }
     }
 
-    /// Says how much was done. Of pages nothing is known where the run was cut short.
+    /// Says how much was done. If the run was cut short, nothing is known about pages.
     fn sum_up(&mut self, moved: Option<Moved>)
         ensures out { self.new.out ≡ self.old.out }
         ensures err { self.new.err.ghost_name ≡ self.old.err.ghost_name }
@@ -429,12 +429,12 @@ impl<'o, 'e, 's, 'l, 't, 'b, 'g, 'p, 'f, O: Write, E: Write> Printer<
             begun: self.count_begun(),
             moved,
         };
-        // Nothing hangs on it.
+        // Nothing depends on it.
         let _ = summary.write(self.err, self.observed);
     }
 }
 
-/// The command that this step began, if one did, as it stands when a line of this number is answered.
+/// The command that this step began, if it began one, as it is when a line with this number is answered.
 fn told_of<'s>(
     source: Source<'s>,
     texts: Texts<'_, 's>,
@@ -462,7 +462,7 @@ fn reason_for<'s>(actor: Actor, told: Option<Told<'s>>, word: Word) -> Option<Re
     }
 }
 
-/// Why not all answers were taken, if they were not. That one could not be written counts first.
+/// Why not all answers were taken, if they were not. A failed write of an answer counts first.
 fn stopped_by(stopped: Option<Stopped>, flushed: io::Result<()>) -> Result<(), Stopped>
     ensures { IfErr result (λ why. is_end why ≡ true → is_ended stopped ≡ true) }
 {
@@ -479,14 +479,14 @@ fn stopped_by(stopped: Option<Stopped>, flushed: io::Result<()>) -> Result<(), S
     }
 }
 
-/// How a run went, with its trace where it went through, and whether all that it answered was taken.
+/// How a run ended, with its trace if it went through, and whether all its answers were taken.
 #[derive(Drop)]
 pub struct Ended {
     pub ran: Result<Trace, Stop>,
     pub written: Result<(), Stopped>,
 }
 
-/// What is kept of the script beside its steps, where the options ask for it.
+/// What is kept of the script besides its steps, if the options ask for it.
 fn kept_of<'s>(
     alloc: Global,
     options: Options,
@@ -497,8 +497,8 @@ fn kept_of<'s>(
     Ok((lines, observed))
 }
 
-/// Runs steps over a device. Each answer is written to `out` as it comes; what the options ask for goes to
-/// `err`, and nothing else.
+/// Runs steps over a device. Each answer is written to `out` as it comes. `err` gets what the options ask for, and
+/// nothing else.
 pub fn print_run<D: BlockDevice, O: Write, E: Write>(
     alloc: Global,
     options: Options,
@@ -558,7 +558,7 @@ pub fn print_run<D: BlockDevice, O: Write, E: Write>(
     Ended { ran, written }
 }
 
-/// How many pages a run moved that went through.
+/// How many pages a run moved, if it went through.
 fn moved_by(ran: &Result<Trace, Stop>, written: Calls) -> Option<Moved> {
     match ran {
         Ok(trace) => Some(Moved::of(trace.entries(), written)),
@@ -568,7 +568,7 @@ fn moved_by(ran: &Result<Trace, Stop>, written: Calls) -> Option<Moved> {
 
 impl<'o, 'e, 's, 'l, 't, 'b, 'g, 'p, 'f, O: Write, E: Write> Sink
     for Printer<'o, 'e, 's, 'l, 't, 'b, 'g, 'p, 'f, O, E> {
-    // What is said of the one and of the other writer, and when a strict run goes on. Both stay the writers that they are.
+    // What both writers got, and when a strict run continues. Both stay the same writers.
     ghost took = { λ a b xs. (b.out.ghost_name ≡ a.out.ghost_name) × (b.err.ghost_name ≡ a.err.ghost_name) × (b.options ≡ a.options)
         × OutTakes a.options (O.contents a.out.now) (O.contents b.out.now) xs
         × IsQuiet a.options a.shown b.shown (E.contents a.err.now) (E.contents b.err.now)

@@ -11,10 +11,10 @@ use indexmap::IndexSet;
 use std::alloc::{AllocError, Global};
 use std::str;
 
-/// The steps of a run, and the script that they come of.
+/// The steps of a run, and their script.
 #[derive(Clone, Copy)]
 pub struct Source<'s> {
-    /// How the script's file is called.
+    /// The name of the script's file.
     pub name: &'s str,
     /// All bytes of the script.
     pub script: &'s [u8],
@@ -24,7 +24,7 @@ pub struct Source<'s> {
 }
 
 impl<'s> Source<'s> {
-    /// The number of the line of the step that stands there; 0 where there is none.
+    /// The number of the line of this step, or 0 if there is no such line.
     pub fn line_of(&self, step: usize) -> usize {
         match self.schedule.line_at(step) {
             Some(line) => line.number,
@@ -40,7 +40,7 @@ impl<'s> Source<'s> {
         }
     }
 
-    /// The command that begins with the step that stands there.
+    /// The command that begins with this step.
     pub fn command_at(&self, step: usize) -> Option<&'s Command> {
         let (_, command) = self.schedule.begun_at(step)?;
         Some(command)
@@ -53,14 +53,14 @@ pub struct Line<'s> {
     text: &'s str,
 }
 
-/// The lines of a script, where something asks for them.
+/// The lines of a script, if something asks for them.
 #[derive(Clone, Copy)]
 pub struct Texts<'t, 's> {
     pub lines: &'t [Line<'s>],
 }
 
 impl<'t, 's> Texts<'t, 's> {
-    /// The text of the line of this number, from 1 on.
+    /// The text of the line with this number, counted from 1.
     pub fn of(&self, number: usize) -> &'s str {
         match self.lines.get(number.saturating_sub(1)) {
             Some(line) => line.text,
@@ -69,7 +69,7 @@ impl<'t, 's> Texts<'t, 's> {
     }
 }
 
-/// The lines of a script, where the options ask for them.
+/// The lines of a script, if the options ask for them.
 pub fn lines_for(
     alloc: Global,
     options: Options,
@@ -81,7 +81,8 @@ pub fn lines_for(
     lines_of(alloc, script)
 }
 
-/// The lines of a script, in their order. One that is no text is none of a script that can be run, and is empty here.
+/// The lines of a script, in their order. A line that is not text is empty here. No script with such a line can be
+/// run.
 fn lines_of(alloc: Global, script: &[u8]) -> Result<Vec<Line<'_>>, AllocError> {
     let mut lines = Vec::new(alloc);
     let mut rest = script;

@@ -11,6 +11,7 @@ use std::io;
 pub enum Stopped {
     /// An answer could not be written.
     Unwritten(io::Error),
-    /// The last one refuses something, where that ends a run. The text is the line that says which line it was, and why.
+    /// The last answer refuses something, and that ended the run. The text is the line that says which line it was,
+    /// and why.
     Refused(String),
 }

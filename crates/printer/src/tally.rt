@@ -7,7 +7,7 @@ use machine::refusal::Refusal;
 use std::io;
 use std::io::Write;
 
-/// The words that refuse something, in the order in which they are told.
+/// The words that refuse something, in the order in which they are printed.
 const REFUSING: [Word; 18] = [
     Word::Busy,
     Word::Io,
@@ -32,11 +32,11 @@ const REFUSING: [Word; 18] = [
 /// What a run has answered.
 #[derive(Clone, Copy)]
 pub struct Tally {
-    /// Commands that came to their end.
+    /// Commands that have ended.
     ended: u64,
     /// Tasks that were killed.
     kills: u64,
-    /// How often each of the words came that refuse something, in their order.
+    /// How often each of the words that refuse something was answered, in their order.
     refused: [u64; REFUSING.len()],
     /// Commands that were begun over another, and so not begun.
     underway: u64,
@@ -53,7 +53,7 @@ impl Tally {
         }
     }
 
-    /// One answer more.
+    /// Counts an answer.
     pub fn count(&mut self, answer: &Answer) {
         match answer {
             Answer::Kill(_) => bump(&mut self.kills),
@@ -78,7 +78,7 @@ impl Tally {
         }
     }
 
-    /// How many of so many commands that began have not come to their end.
+    /// How many of the begun commands have not ended.
     fn unfinished(&self, begun: u64) -> u64 {
         begun
             .saturating_sub(self.underway)
@@ -86,24 +86,24 @@ impl Tally {
     }
 }
 
-/// One more, up to the greatest number that there is.
+/// Adds one, up to the greatest number that there is.
 fn bump(count: &mut u64) {
     *count = count.saturating_add(1);
 }
 
-/// How much was done, a line a number. Of pages it says nothing where the run was cut short.
+/// How much was done, with a line for each number. If the run was cut short, it says nothing about pages.
 #[derive(Clone, Copy)]
 pub struct Summary {
     pub tally: Tally,
     /// Up to which line the script was run.
     pub line: usize,
-    /// How many commands began, those among them that began over another.
+    /// How many commands began, including those that began over another.
     pub begun: u64,
     pub moved: Option<Moved>,
 }
 
 impl Summary {
-    /// All lines, with those of what was seen of groups behind them.
+    /// Writes all lines, and then the lines about what was seen of groups.
     pub fn write<W: Write>(&self, to: &mut W, observed: &Observed<'_>) -> io::Result<()> {
         writeln!(to, "lines: {}", self.line)?;
         writeln!(to, "kills: {}", self.tally.kills)?;
@@ -115,7 +115,7 @@ impl Summary {
         observed.write(to)
     }
 
-    /// How many lines were refused, and with which words.
+    /// Writes how many lines were refused, and with which words.
     fn write_refused<W: Write>(&self, to: &mut W) -> io::Result<()> {
         let all = self
             .tally

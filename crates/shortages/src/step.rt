@@ -8,7 +8,7 @@ use machine::id::{GroupId, TaskId};
 pub enum End {
     /// The device's block is read or written.
     Good(&'static str),
-    /// It can't be.
+    /// It can't be read or written.
     Failed(&'static str),
 }
 

@@ -155,7 +155,7 @@ impl Machine {
         self.told.as_slice()
     }
 
-    /// It goes no further than the other did.
+    /// It continues no further than the other did.
     pub fn follow(&mut self, other: &Machine) {
         self.last = other.told.len();
     }

@@ -23,7 +23,7 @@ use std::alloc::{AllocError, Global};
 use std::io;
 use std::io::Write;
 
-/// What is made of a run.
+/// The kinds of drawings of a run.
 #[derive(Clone, Copy, Debug, PartialEq, Eq)]
 pub enum Drawing {
     /// A picture, as SVG.
@@ -43,7 +43,7 @@ fn charted_paths(alloc: Global, schedule: &driver::Schedule) -> Result<Vec<&str>
     Ok(paths)
 }
 
-/// The text that is written. It fails where memory is wanted and refused.
+/// The text that is written. It fails if memory is refused.
 fn text_of(
     alloc: Global,
     kind: Drawing,
@@ -73,7 +73,7 @@ fn text_of(
     }
 }
 
-/// Writes the text, and has the writer pass it on.
+/// Writes the text, and flushes the writer.
 fn write_all<O: Write>(out: &mut O, text: &str) -> io::Result<()>
     ensures { OnOk result (Appends (O.contents out.old) (O.contents out.new) text.now) }
 {
@@ -115,12 +115,12 @@ fn chart_steps<O: Write>(
     }
 }
 
-/// `memcgrun chart FILE`: runs a script as [`crate::run_script`] does, and writes, in place of the answers, what each group
-/// that it makes was charged with behind each of its lines: as a picture, or as a table. What a look at the book shows
-/// between two steps is what is drawn (see [`charts::watch`]), and no command is woven in, so the run is the same.
+/// `memcgrun chart FILE`: runs a script as [`crate::run_script`] does. In place of the answers, it writes a picture
+/// or a table. This has the charges of each group that the script makes, after each line. It shows what a look at
+/// the book shows between two steps (see [`charts::watch`]). No command is added, so the run is the same.
 ///
-/// It fails as `run_script` does, and then `out` may hold the beginning of the picture or of the table; of a faulty script
-/// nothing.
+/// It fails as `run_script` does. Then `out` may have the beginning of the picture or of the table. For a faulty
+/// script, `out` gets nothing.
 pub fn chart<O: Write>(
     alloc: Global,
     options: Options,

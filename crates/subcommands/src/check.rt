@@ -19,7 +19,7 @@ use std::alloc::{AllocError, Global};
 use std::io::{ErrorKind, Read, Write};
 use std::{io, str};
 
-/// What comes of a check.
+/// The result of a check.
 #[derive(Clone, Copy, PartialEq, Eq)]
 pub enum Checked {
     /// The script answers what it expects, and nothing else.
@@ -32,11 +32,11 @@ pub enum Checked {
 #[derive(Drop)]
 struct Answers {
     output: Vec<u8>,
-    /// For each line of it the number of the script's line that it comes of.
+    /// For each line of the output, the number of the script's line that caused it.
     numbers: Vec<usize>,
 }
 
-/// What a run of the script prints, with what the options ask for, which is no name of a file.
+/// What a run of the script prints, with what the options ask for. They do not ask for the name of a file.
 fn output_of(alloc: Global, options: Options, script: &[u8]) -> Result<Vec<u8>, Fault>
     ensures whole { IfOk result (λ output. marks_lines options ≡ false → PrintsScript options script.now (Some []) (Some output.items)) }
     ensures why { IfErr result (Explains options [] script.now) }
@@ -47,7 +47,7 @@ fn output_of(alloc: Global, options: Options, script: &[u8]) -> Result<Vec<u8>, 
     Ok(output)
 }
 
-/// The numbers that stand before the lines of an output, with a colon behind each.
+/// The numbers before the lines of an output, each of which is followed by a colon.
 fn numbers_of(alloc: Global, numbered: &[u8]) -> Result<Vec<usize>, AllocError> {
     let mut numbers = Vec::new(alloc);
     for line in str::from_utf8(numbered).unwrap_or("").lines() {
@@ -59,7 +59,7 @@ fn numbers_of(alloc: Global, numbered: &[u8]) -> Result<Vec<usize>, AllocError> 
     Ok(numbers)
 }
 
-/// A script is run twice, since its output says of no line where it comes of, or of each.
+/// The script is run twice, since an output has the numbers of all its lines or of none.
 fn answers_of(alloc: Global, placement: Placement, script: &[u8]) -> Result<Answers, Fault>
     ensures whole { IfOk result (λ answers. PrintsScript (plain_as placement) script.now (Some []) (Some answers.output.items)) }
     ensures why { IfErr result (Explains (plain_as placement) [] script.now) }
@@ -80,7 +80,7 @@ fn answers_of(alloc: Global, placement: Placement, script: &[u8]) -> Result<Answ
     }
 }
 
-/// Writes the line that says what comes of the check, in one piece.
+/// Writes the line with the result of the check, in one piece.
 fn tell<O: Write>(
     alloc: Global,
     name: &str,
@@ -98,8 +98,8 @@ fn tell<O: Write>(
     out.flush()
 }
 
-/// Runs a script that was read, with pages placed so, holds its answers against what it expects, and writes a line to
-/// `out` that says what comes of it: behind the file's name how many answers there were, or the first difference.
+/// Runs a script that was read, with this placement, and compares its answers with what it expects. Writes a line
+/// with the result to `out`: after the file's name, the number of answers or the first difference.
 pub fn check_script<O: Write>(
     alloc: Global,
     placement: Placement,
@@ -107,9 +107,9 @@ pub fn check_script<O: Write>(
     script: &[u8],
     out: &mut O,
 ) -> Result<Checked, Fault>
-    // It is met only where the answers of the plain machine print exactly what the script expects.
+    // It is met only if the answers of the plain machine print exactly what the script expects.
     ensures met { IfOk result (λ checked. checked ≡ Checked.Met → PrintsScript (plain_as placement) script.now (Some []) (Some (expected_of script.now))) }
-    // It is met or differs only if no line of it is faulty.
+    // It is met or differs only if no line of the script is faulty.
     ensures ran { OnOk result (IsFaultless Schedule (lines script.now)) }
     ensures why { IfErr result (Explains (plain_as placement) [] script.now) }
 {
@@ -129,8 +129,8 @@ pub fn check_script<O: Write>(
 
 /// Reads a script and checks it as [`check_script`] does.
 ///
-/// The exit status is 0 where it answers what it expects, and else 1. Where it can't be run, `err` gets the lines
-/// that say why, the file's name before them.
+/// The exit status is 0 if it answers what it expects, and otherwise 1. If it can't be run, `err` gets the file's
+/// name, and then the lines that say why.
 pub fn read_and_check<R: Read, O: Write, E: Write>(
     alloc: Global,
     placement: Placement,
@@ -151,7 +151,7 @@ pub fn read_and_check<R: Read, O: Write, E: Write>(
         Ok(Checked::Differs) => FAILED,
         Err(fault) => {
             if !fault.is_silent() {
-                // The status tells of the failure even where its line can't be written.
+                // The status reports the failure even if its line can't be written.
                 let _ = write!(err, "{name}: ");
             }
             status_of(Err(fault), err)

@@ -11,8 +11,8 @@ use scripts::number_of;
 use std::alloc::{AllocError, Global};
 use std::sync::Wait;
 
-/// The workers, in order of their coming, and the numbers of their actors, so that an actor's place is looked up and not
-/// looked for.
+/// The workers, in the order in which they were hired, and the numbers of their actors. The numbers give an actor's
+/// place without a search.
 #[derive(Drop)]
 pub struct Crew<L: Opened> {
     pub workers: Vec<Worker<L>>,
@@ -21,7 +21,7 @@ pub struct Crew<L: Opened> {
 }
 
 impl<L: Opened> Crew<L> {
-    /// Nobody.
+    /// A crew without workers.
     pub fn new(alloc: Global) -> Self
         ensures { result.workers.items ≡ [] }
     {
@@ -39,7 +39,7 @@ impl<L: Opened> Crew<L> {
         self.numbers.get_index_of(&number_of(actor))
     }
 
-    /// One worker more, of an actor who has none.
+    /// Adds a worker for an actor that has none.
     fn add(&mut self, actor: Actor, worker: Worker<L>) -> Result<(), AllocError>
         requires new { place_of actor self.old.workers.items ≡ length self.old.workers.items }
         requires of { worker.actor ≡ actor }
@@ -51,14 +51,14 @@ impl<L: Opened> Crew<L> {
         Ok(())
     }
 
-    /// How many there are.
+    /// How many workers there are.
     pub fn len(&self) -> usize
         ensures { result ≡ length self.now.workers.items }
     {
         self.workers.len()
     }
 
-    /// So many that came first, and the others.
+    /// The first `count` workers, and the others.
     pub fn split(self, count: usize) -> Result<(Vec<Worker<L>>, Vec<Worker<L>>), AllocError>
         requires { count ≤ length self.workers.items }
         ensures { IfOk result (λ parts. (parts.0.items ≡ take count self.workers.items) × (parts.1.items ≡ drop count self.workers.items)) }
@@ -73,7 +73,7 @@ impl<L: Opened> Crew<L> {
 }
 
 impl<L: Opened> Crew<L> {
-    /// A worker with a pass of its own, of an actor who has none, for these commands.
+    /// Adds a worker for an actor that has none, with a pass of its own and these commands.
     pub fn hire<D: SharedDevice, R: Wait>(
         &mut self,
         rt: &R,
@@ -91,7 +91,7 @@ impl<L: Opened> Crew<L> {
         self.add(actor, Worker::new(alloc, actor, pass, commands))
     }
 
-    /// The place of the actor's worker, who is hired where there is none.
+    /// The place of the actor's worker. A worker is hired if the actor has none.
     fn place<D: SharedDevice, R: Wait>(
         &mut self,
         rt: &R,
@@ -112,7 +112,7 @@ impl<L: Opened> Crew<L> {
         Ok(place)
     }
 
-    /// Answers a command of the actor's at once.
+    /// Answers a command of the actor at once.
     pub fn ask<D: SharedDevice, R: Wait>(
         &mut self,
         rt: &R,

@@ -10,8 +10,8 @@ use driver::Config;
 use files::blocks_for;
 use std::alloc::Global;
 
-/// A new device with the blocks that the configuration asks for, of whose calls exactly the listed ones fail. The error
-/// is for how much memory there was none.
+/// A new device with the blocks that the configuration asks for. Exactly the listed calls fail. The error says for
+/// how much memory there was no room.
 pub fn new_device(
     alloc: Global,
     config: &Config,

@@ -16,7 +16,7 @@ use std::io::{ErrorKind, Write};
 use std::{fmt, io};
 use thiserror::Error;
 
-/// The most bytes that stand in a line behind its first words.
+/// The most bytes in a line after its first words.
 const REST_BYTES: usize = 512;
 
 /// The most bytes of a line.
@@ -58,14 +58,14 @@ impl Fault {
         }
     }
 
-    /// What its line says behind that.
+    /// What its line says after that.
     fn rest(&self) -> Rest<'_>
         ensures { result.fault.now ≡ self.now }
     {
         Rest { fault: self }
     }
 
-    /// Whether nobody wants to hear of it: who read the answers has closed the pipe, as `head` does.
+    /// Whether nothing is reported: the reader of the answers has closed the pipe, as `head` does.
     pub fn is_silent(&self) -> bool
         ensures { IsTrue result ↔ IsSilent self.now }
     {
@@ -75,9 +75,11 @@ impl Fault {
         }
     }
 
-    /// Writes the lines that say why; nothing where nobody wants to hear of it. It takes no memory. The error is the
-    /// writer's, which took no more than the beginning; or the line would be longer than a line may be, which only a reader's or a
-    /// writer's own text can be, and then nothing is written.
+    /// Writes the lines that say why, or nothing if the fault is silent. It takes no memory.
+    ///
+    /// The error is the writer's, and then the writer took at most the beginning. It is also an error if the line
+    /// would be longer than a line may be, and then nothing is written. Only a reader's or a writer's own text can
+    /// be that long.
     pub fn report<E: Write>(&self, err: &mut E) -> io::Result<()>
         ensures whole { OnOk result (Reports self.now (E.contents err.old) (E.contents err.new)) }
         ensures start { StartsReport self.now (E.contents err.old) (E.contents err.new) }
@@ -130,13 +132,13 @@ impl fmt::Display for Rest<'_> {
     }
 }
 
-/// What the frames of a machine and the blocks of its device take: 4,096 bytes each. The machine wants
-/// more than these.
+/// What the frames of a machine and the blocks of its device take: 4,096 bytes each. The machine needs more than
+/// these.
 #[derive(Clone, Copy, Debug)]
 pub struct Wanted {
     frames: u32,
     swap: u32,
-    /// How many blocks there are, those of swap among them.
+    /// How many blocks there are, including the swap blocks.
     blocks: u32,
 }
 

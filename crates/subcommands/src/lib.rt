@@ -38,8 +38,8 @@ use std::io;
 use std::io::{ErrorKind, Read, Write};
 pub use threads::{MOST_ACTORS, Verdict, run, run_over, run_script_on_threads, status_of_run};
 
-/// The most bytes that a script may have. A reader that never ends is refused by it, and takes no
-/// more memory than this.
+/// The most bytes that a script may have. With this limit, a reader that never ends is refused, and takes no more
+/// memory than this.
 pub use machine::limit::SCRIPT_BYTES;
 
 const FAILED: u8 = 1;
@@ -51,7 +51,7 @@ pub fn read_script<R: Read>(alloc: Global, script: &mut R) -> Result<Vec<u8>, Fa
     ensures why { IfErr result (λ why. IfSome (R.remaining script.old) (λ all. IsUnread all why)) }
 {
     let mut bytes = Vec::new(alloc);
-    // One byte more is asked for, so that a script that is too long is never cut off and run.
+    // Asks for one more byte, so that a script that is too long is never cut off and run.
     match script.take(SCRIPT_BYTES + 1).read_to_end(&mut bytes) {
         Err(error) => Err(Fault::Unreadable(error)),
         Ok(read) => {
@@ -63,7 +63,7 @@ pub fn read_script<R: Read>(alloc: Global, script: &mut R) -> Result<Vec<u8>, Fa
     }
 }
 
-/// Why an answer could not be written: its bytes want memory too.
+/// Why an answer could not be written: its bytes need memory too.
 pub(crate) fn unwritten(wanted: Wanted, error: io::Error) -> Fault
     ensures of_run { IsRunFault result }
     ensures of_schedule { (options : Asked_by) → IsScheduleFault options result }
@@ -75,7 +75,7 @@ pub(crate) fn unwritten(wanted: Wanted, error: io::Error) -> Fault
     }
 }
 
-/// Why a run ended before all was answered, or not all of it was written.
+/// Why a run ended before all was answered, or why not all of it was written.
 fn fault_of(wanted: Wanted, stopped: Stopped) -> Fault
     ensures why { (options : Asked_by) → (is_end stopped ≡ true → options.strict ≡ true) → IsScheduleFault options result }
     ensures refused { IsRefused result → is_end stopped ≡ true }
@@ -110,17 +110,17 @@ fn run_on<O: Write, E: Write>(
             Ok(()) => Ok(()),
             Err(stopped) => Err(fault_of(wanted, stopped)),
         },
-        // Over a device that has the blocks it is refused for want of memory alone.
+        // Over a device that has the blocks, a run is refused only if memory runs out.
         Err(Stop::Refused(_)) => Err(Fault::Memory(wanted)),
         Err(Stop::Closed) => match written {
-            // Not reached: a sink is closed only where an answer could not be written, or ends a strict run.
+            // Not reached: a sink is closed only if an answer could not be written, or ends a strict run.
             Ok(()) => Err(Fault::Unwritable(ErrorKind::Other.into())),
             Err(stopped) => Err(fault_of(wanted, stopped)),
         },
     }
 }
 
-/// Runs a script over a new device, which has the blocks that the script asks for, and its faults.
+/// Runs a script over a new device, which has the blocks and the faults that the script asks for.
 fn run_steps<O: Write, E: Write>(
     alloc: Global,
     options: Options,
@@ -157,7 +157,7 @@ fn run_steps<O: Write, E: Write>(
     run_on(alloc, options, config, &mut device, source, out, err)
 }
 
-/// The line of a fault with the name of the script's file, without its end.
+/// The line of a fault with the name of the script's file, without an end of line.
 fn place(alloc: Global, file: &str, fault: ScriptFault) -> Result<String, AllocError>
     ensures { IfOk result (λ told. string_bytes told ≡ placed_text file.now fault) }
 {
@@ -185,7 +185,7 @@ fn add_more(
     }
 }
 
-/// All that is told of a fault where the file's name is asked for.
+/// All that a fault reports if the file's name is asked for.
 fn placed(
     alloc: Global,
     options: Options,
@@ -202,7 +202,7 @@ fn placed(
     Ok(told)
 }
 
-/// The fault of a script. Where there is no memory to say more of it, its line is said alone.
+/// The fault of a script. If there is no memory to say more about it, its line is reported alone.
 pub(crate) fn faulty(
     alloc: Global,
     options: Options,
@@ -224,18 +224,18 @@ pub(crate) fn faulty(
     }
 }
 
-/// Shows that a script is being read, where it is to be shown how far a run has come.
+/// Shows that a script is being read, if progress is to be shown.
 fn show_reading<E: Write>(options: Options, err: &mut E)
     ensures quiet { speaks options ≡ false → E.contents err.new ≡ E.contents err.old }
     ensures unshown { options.progress ≡ false → E.contents err.new ≡ E.contents err.old }
 {
     if options.progress {
-        // Nothing hangs on it.
+        // Nothing depends on it.
         let _ = err.write_all(b"reading the script");
     }
 }
 
-/// Takes that back.
+/// Erases that text.
 fn hide_reading<E: Write>(options: Options, err: &mut E)
     ensures quiet { speaks options ≡ false → E.contents err.new ≡ E.contents err.old }
     ensures unshown { options.progress ≡ false → E.contents err.new ≡ E.contents err.old }
@@ -245,13 +245,17 @@ fn hide_reading<E: Write>(options: Options, err: &mut E)
     }
 }
 
-/// Runs a script that was read, one turn after another, and writes the line of each answer to `out` as it
-/// comes. What the options ask for beside that goes to `err`, but for what stands before the lines of answers, and nothing else
-/// does. There, and in the fault, the script's file has the name `file`.
+/// Runs a script that was read, one turn after another, and writes the line of each answer to `out` as it comes.
+/// What comes before these lines, and the line of an audit, are written to `out` too. Everything else that the
+/// options ask for is written to `err`, and nothing but that. In `err` and in the fault, the script's file has the
+/// name `file`.
 ///
-/// The error says why it was not run to its end: its first faulty line with its first cause, or that memory was
-/// wanted or an answer could not be written, or, where the run is strict, the first line that was refused. Nothing is run, and
-/// `out` gets nothing, unless the script as a whole is sound; a run that fails later has written what it had answered.
+/// The error says why the script was not run to its end. It names the first faulty line, with that line's first
+/// cause. Otherwise memory ran out, or an answer could not be written. In a strict run, it may also be the first
+/// line that was refused.
+///
+/// Nothing is run, and `out` gets nothing, unless the script as a whole is sound. A run that fails later has
+/// written what it had answered.
 pub fn run_script<O: Write, E: Write>(
     alloc: Global,
     options: Options,
@@ -264,11 +268,11 @@ pub fn run_script<O: Write, E: Write>(
     ensures start { OnErr result (marks_lines options ≡ false → PrintsPart options script.now (O.contents out.old) (O.contents out.new)) }
     ensures faulty { (n : ℕ) (cause : Cause) → IsFirstFault Schedule (lines script.now) n cause → IsErr result × (O.contents out.new ≡ O.contents out.old) }
     ensures why { IfErr result (Explains options file.now script.now) }
-    // It is the script's only where nothing was run.
+    // The fault is the script's only if nothing was run.
     ensures unrun { IfErr result (λ why. IsOfScript why → O.contents out.new ≡ O.contents out.old) }
-    // Then nothing was said before it, except how far reading had come.
+    // Then `err` got nothing before it, except how far reading had come.
     ensures unsaid { IfErr result (λ why. IsOfScript why → options.progress ≡ false → E.contents err.new ≡ E.contents err.old) }
-    // It is of a line that was refused only where the run ended there.
+    // It is a refused line only if the run ended there.
     ensures refused { IfErr result (λ why. IsRefused why → marks_lines options ≡ false → EndsScript options script.now (O.contents out.old) (O.contents out.new)) }
     ensures quiet { speaks options ≡ false → E.contents err.new ≡ E.contents err.old }
 {
@@ -288,8 +292,8 @@ pub fn run_script<O: Write, E: Write>(
     }
 }
 
-/// The exit status of a run: 0, or 1 where there is a fault. Then `err` gets the lines that say why, as
-/// [`Fault::report`] writes them; the status tells of the failure even where they can't be written.
+/// The exit status of a run: 0, or 1 if there is a fault. Then `err` gets the lines that say why, as
+/// [`Fault::report`] writes them. The status reports the failure even if they can't be written.
 pub fn status_of<E: Write>(ran: Result<(), Fault>, err: &mut E) -> u8
     ensures well { OnOk ran ((result ≡ 0) × (E.contents err.new ≡ E.contents err.old)) }
     ensures failed { IfErr ran (λ why. (result ≡ 1) × StartsReport why (E.contents err.old) (E.contents err.new)) }
@@ -301,7 +305,7 @@ pub fn status_of<E: Write>(ran: Result<(), Fault>, err: &mut E) -> u8
     FAILED
 }
 
-/// With no option, and so without the name of a file.
+/// Reads and runs a script with no option, and so without the name of a file.
 fn read_and_run<R: Read, O: Write, E: Write>(
     alloc: Global,
     script: &mut R,
@@ -320,13 +324,15 @@ fn read_and_run<R: Read, O: Write, E: Write>(
 
 /// Reads a script and runs it, one turn after another, and writes the line of each answer to `out` as it comes.
 ///
-/// The exit status is 0, or 1 where the run fails: the script can't be read or has more than
-/// [`SCRIPT_BYTES`], a line of it is faulty, the run wants memory, or an answer can't be written.
-/// Then `err` gets one line, which for a faulty line is `line L: CAUSE`; but none where `out` is a
-/// pipe that nobody reads any more. It is [`read_script`], [`run_script`] and [`status_of`], as the program makes
-/// them, whose contracts say more: a status tells neither which fault there was nor whether its line could be written.
+/// The exit status is 0, or 1 if the run fails. A run fails if the script can't be read, has more than
+/// [`SCRIPT_BYTES`], or has a faulty line. It also fails if memory runs out, or if an answer can't be written. Then
+/// `err` gets one line, which for a faulty line is `line L: CAUSE`. It gets no line if `out` is a pipe whose reader
+/// has closed it.
 ///
-/// The clauses speak of readers whose bytes are known, and of writers that tell what they hold.
+/// The call is [`read_script`], [`run_script`] and [`status_of`], as the program makes them. Their contracts say
+/// more: a status says neither which fault there was nor whether its line could be written.
+///
+/// The clauses are about readers whose bytes are known, and writers whose contents are known.
 pub fn schedule<R: Read, O: Write, E: Write>(
     alloc: Global,
     script: &mut R,
@@ -334,12 +340,13 @@ pub fn schedule<R: Read, O: Write, E: Write>(
     err: &mut E,
 ) -> u8
     ensures success_or_failure { result ≤ 1 }
-    // Where it is 0, `out` got what all of the script prints, and `err` nothing.
+    // If it is 0, `out` got what all of the script prints, and `err` nothing.
     ensures sound { result ≡ 0 → IfSome (R.remaining script.old) (λ all. PrintsScript plain all (O.contents out.old) (O.contents out.new)) }
     ensures silent { result ≡ 0 → Keeps (E.contents err.old) (E.contents err.new) }
-    // Of a script with a faulty line it is 1, and `out` got nothing.
+    // For a script with a faulty line it is 1, and `out` got nothing.
     ensures faulty { IfSome (R.remaining script.old) (λ all. (n : ℕ) (cause : Cause) → IsFirstFault Schedule (lines all) n cause → (result ≡ 1) × Keeps (O.contents out.old) (O.contents out.new)) }
-    // Where it is 1, `out` got the beginning of what the script prints, or nothing, and `err` the line that says why, or its beginning.
+    // If it is 1, `out` got the beginning of what the script prints, or nothing. `err` got the line that says why,
+    // or its beginning.
     ensures failed { result ≡ 1 → IfSome (R.remaining script.old) (λ all. PrintsPart plain all (O.contents out.old) (O.contents out.new)) }
     ensures told { result ≡ 1 → IfSome (R.remaining script.old) (λ all. TellsWhy all (E.contents err.old) (E.contents err.new)) }
 {

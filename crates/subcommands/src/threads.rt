@@ -44,12 +44,12 @@ pub const MOST_ACTORS: usize = MOST_PASSES - 1;
 
 const FAILED: u8 = 1;
 
-/// What is said at the end of a run.
+/// What a run says at its end.
 #[derive(Clone, Copy, Debug, PartialEq, Eq)]
 pub enum Verdict {
-    /// What each worker was told is what the trace has of it, and an audit of the trace finds nothing wrong.
+    /// Each worker's answers are the ones that the trace has for it, and an audit of the trace finds nothing wrong.
     Fine,
-    /// An audit finds something wrong, first at the entry of this place, counted from 1.
+    /// An audit finds something wrong. This is the place of the first wrong entry, counted from 1.
     Wrong(usize),
 }
 
@@ -63,7 +63,7 @@ fn verdict_of<D>(report: &Report<D>) -> Verdict
     }
 }
 
-/// Writes the line that says it.
+/// Writes the line of the verdict.
 fn tell<O: Write>(alloc: Global, verdict: Verdict, out: &mut O) -> io::Result<()>
     ensures { OnOk result (Appends (O.contents out.old) (O.contents out.new) (verdict_line verdict)) }
 {
@@ -85,7 +85,7 @@ fn print_answer<O: Write>(text: &mut String, reply: &Reply, out: &mut O) -> io::
     write_bytes(out, text.as_bytes())
 }
 
-/// Writes what answers print, one behind the other.
+/// Writes what answers print, one after the other.
 fn print_answers<O: Write>(alloc: Global, answers: &[Reply], out: &mut O) -> io::Result<()>
     ensures { OnOk result (Appends (O.contents out.old) (O.contents out.new) (texts answers.now)) }
 {
@@ -131,7 +131,7 @@ fn refuse_crowd(
     }
 }
 
-/// A worker for each row, in their order.
+/// Hires a worker for each row, in their order.
 fn hire_all<L: Opened, D: SharedDevice, R: Wait>(
     rt: &R,
     alloc: Global,
@@ -150,7 +150,7 @@ fn hire_all<L: Opened, D: SharedDevice, R: Wait>(
     Ok(crew)
 }
 
-/// One line of what stands before the threads go.
+/// Runs one of the lines before the threads start.
 fn set_up_one<L: Opened, D: SharedDevice, R: Wait, O: Write>(
     rt: &R,
     alloc: Global,
@@ -175,7 +175,7 @@ fn set_up_one<L: Opened, D: SharedDevice, R: Wait, O: Write>(
     }
 }
 
-/// What stands before the threads go is done, one after the other, and what it answers is written at once.
+/// Runs the lines before the threads start, one after the other, and writes their answers at once.
 fn set_up<L: Opened, D: SharedDevice, R: Wait, O: Write>(
     rt: &R,
     alloc: Global,
@@ -196,7 +196,7 @@ fn set_up<L: Opened, D: SharedDevice, R: Wait, O: Write>(
     Ok(())
 }
 
-/// Writes what a worker answered. It fails, too, where there was no memory for its answers.
+/// Writes what a worker answered. It also fails if there was no memory for its answers.
 fn print_row<L: Opened, O: Write>(
     alloc: Global,
     wanted: Wanted,
@@ -215,7 +215,7 @@ fn print_row<L: Opened, O: Write>(
     }
 }
 
-/// The same of workers, one behind the other.
+/// The same for workers, one after the other.
 fn print_rows<L: Opened, O: Write>(
     alloc: Global,
     wanted: Wanted,
@@ -260,8 +260,8 @@ fn all_passes<L: Opened>(
     Ok(passes)
 }
 
-/// All that workers do: what stands before the threads go, and then all rows at once with the daemon beside them. It
-/// hands out their passes.
+/// All that workers do: the lines before the threads start, and then all rows at once, together with the daemon.
+/// Returns the workers' passes.
 fn work_all<L: Opened + Send + Sync, D: SharedDevice + Sync, R: Threads + Wait + Sync, O: Write>(
     rt: &R,
     alloc: Global,
@@ -297,7 +297,7 @@ fn work_all<L: Opened + Send + Sync, D: SharedDevice + Sync, R: Threads + Wait +
     }
 }
 
-/// The verdict, once its line is written.
+/// Writes the line of the verdict, and returns it.
 fn say<O: Write>(
     alloc: Global,
     wanted: Wanted,
@@ -313,7 +313,7 @@ fn say<O: Write>(
     }
 }
 
-/// Ends a run: its verdict, which is written.
+/// Ends a run, and writes its verdict.
 fn conclude<L: Opened, D: SharedDevice + Drop, O: Write>(
     alloc: Global,
     live: Live<L, D>,
@@ -335,7 +335,7 @@ fn conclude<L: Opened, D: SharedDevice + Drop, O: Write>(
     }
 }
 
-/// The same, without a last flush.
+/// Runs all workers and ends the run, without a last flush.
 fn run_live<
     L: Opened + Send + Sync,
     D: SharedDevice + Sync + Drop,
@@ -478,9 +478,9 @@ pub fn run_script_on_threads<R: Threads + Wait + Sync, O: Write>(
     }
 }
 
-/// The exit status of a run on threads: 0 for the verdict that all is fine, and 1 for another, or where there is a
-/// fault. Then `err` gets the lines that say why, as [`Fault::report`] writes them; the status tells of the failure
-/// even where they can't be written.
+/// The exit status of a run on threads: 0 for the verdict that all is fine, and 1 for another verdict or a fault.
+/// For a fault, `err` gets the lines that say why, as [`Fault::report`] writes them. The status reports the failure
+/// even if they can't be written.
 pub fn status_of_run<E: Write>(ran: Result<Verdict, Fault>, err: &mut E) -> u8
     ensures judged { IfOk ran (λ verdict. (result ≡ status_by verdict) × (E.contents err.new ≡ E.contents err.old)) }
     ensures failed { IfErr ran (λ why. (result ≡ 1) × StartsReport why (E.contents err.old) (E.contents err.new)) }
