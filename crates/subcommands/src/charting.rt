@@ -32,7 +32,7 @@ pub enum Drawing {
     Table,
 }
 
-/// The paths whose groups are drawn: those of all groups that the steps make, or the root's if they make none.
+/// The paths of the groups that are drawn: all groups that the steps make, or the root if they make none.
 fn charted_paths(alloc: Global, schedule: &driver::Schedule) -> Result<Vec<&str>, AllocError>
     ensures { IfOk result (λ paths. map (λ p. p.now) paths.items ≡ charted_in schedule.now.steps) }
 {
@@ -132,7 +132,7 @@ pub fn chart<O: Write>(
     ensures faulty { (n : ℕ) (cause : Cause) → IsFirstFault Schedule (lines script.now) n cause → IsErr result × (O.contents out.new ≡ O.contents out.old) }
     ensures why { IfErr result (Explains options title.now script.now) }
     ensures unrun { IfErr result (λ why. IsOfScript why → O.contents out.new ≡ O.contents out.old) }
-    // Then `out` got the table of all groups that the script makes, if a table was asked for.
+    // If it succeeds and a table was asked for, `out` got the table of all groups that the script makes.
     ensures listed { OnOk result (kind ≡ Drawing.Table → ListsScript options script.now (O.contents out.old) (O.contents out.new)) }
 {
     one_answer();

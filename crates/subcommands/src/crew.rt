@@ -133,7 +133,7 @@ impl<L: Opened> Crew<L> {
     }
 }
 
-/// A pass more. It fails for want of memory: a script with more actors than there can be passes is refused before.
+/// Another pass. It fails only if memory runs out: a script with more actors than passes was refused before.
 pub fn new_pass<L: Opened, D: SharedDevice, R: Wait>(
     rt: &R,
     live: &Live<L, D>,

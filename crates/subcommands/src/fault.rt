@@ -30,23 +30,23 @@ pub enum Fault {
     Unreadable(io::Error),
     /// The script has more bytes than [`crate::SCRIPT_BYTES`].
     TooLong,
-    /// The script has so many actors, and no more than [`crate::MOST_ACTORS`] can run at once.
+    /// The script has this number of actors, and at most [`crate::MOST_ACTORS`] can run at once.
     TooManyActors(usize),
     /// A line is faulty, or there was no memory for what the script says.
     Script(ScriptFault),
-    /// A line is faulty. The text is what is told of it: its line with the name of the script's file, and behind that one
-    /// that says more, if there is more to say.
+    /// A line is faulty. The text is the fault's line with the name of the script's file. A second line follows if there
+    /// is more to say.
     Placed(ScriptFault, String),
-    /// Memory was wanted for the run, for what is no command's answer.
+    /// Memory was refused for the run, and not for a command's answer.
     Memory(Wanted),
     /// An answer could not be written.
     Unwritable(io::Error),
-    /// A line was refused, where that ends a run. The text is the line that says which, and why.
+    /// A line was refused, and that ended the run. The text is the line that says which, and why.
     Refused(String),
 }
 
 impl Fault {
-    /// What its line begins with, whatever else it says.
+    /// The beginning of the line of this kind of fault.
     fn front(&self) -> &'static str
         ensures { result.now ≡ front_of self.now }
     {
@@ -108,7 +108,7 @@ fn tell_line<E: Write, D: fmt::Display + Drop>(err: &mut E, front: &str, rest: D
     write_bytes(err, line.as_slice())
 }
 
-/// What the line of a fault says behind its first words. Where these are not the system's, its bytes are known.
+/// What the line of a fault says after its first words. Its bytes are known, unless they are the system's.
 #[derive(Clone, Copy)]
 struct Rest<'a> {
     fault: &'a Fault,

@@ -39,7 +39,7 @@ use std::marker::Brand;
 use std::sync::Wait;
 use std::thread::Threads;
 
-/// Actors of a script that run at once, at most. Each has a pass, and the daemon that runs beside them has one.
+/// The most actors of a script that run at once. Each has a pass, and the daemon has another.
 pub const MOST_ACTORS: usize = MOST_PASSES - 1;
 
 const FAILED: u8 = 1;
@@ -96,7 +96,7 @@ fn print_answers<O: Write>(alloc: Global, answers: &[Reply], out: &mut O) -> io:
     Ok(())
 }
 
-/// How many actors are asked for something, before the threads go or then.
+/// How many actors have commands, before the threads start or on them.
 fn count_actors(
     alloc: Global,
     setup: &[(Actor, Command)],
@@ -366,13 +366,13 @@ fn run_live<
     }
 }
 
-/// Runs what a script asks of threads over a device that has as many blocks as the script's header asks for: what
-/// stands before the first `go`, one after the other, and each answer is written at once; then each actor's row in a
-/// thread of its own, with the daemon beside them, and the answers are written row by row; then what the trace of all
-/// that says in one line. It is refused before any of that if the script has more than [`MOST_ACTORS`] actors.
+/// Runs a script on threads, over a device that has the blocks that the script's header asks for. The lines before the
+/// first `go` are run one after the other, and each answer is written at once. Then each actor's row is run in a thread
+/// of its own, together with the daemon, and the answers are written row by row. The last line says what the trace
+/// shows. A script with more than [`MOST_ACTORS`] actors is refused before anything runs.
 ///
-/// `L` tells what the machine was opened with, and which history has what its workers are told; the proof of a call at
-/// `Brand` picks both.
+/// `L` says how the machine was opened, and which history has the exchanges of its workers. A caller with `Brand` picks
+/// both in the proof of the call.
 pub fn run_over<
     L: Opened + Send + Sync,
     D: SharedDevice + Sync + Drop,
@@ -418,7 +418,7 @@ pub fn run_over<
     }
 }
 
-/// Runs what was read of a script over a new device.
+/// Runs a script that was read, over a new device.
 fn run_new<R: Threads + Wait + Sync, O: Write>(
     rt: &R,
     alloc: Global,
@@ -449,8 +449,8 @@ fn run_new<R: Threads + Wait + Sync, O: Write>(
     run_over::<Brand, Locked<MemDevice>, R, O>(rt, alloc, script, device, unnamed, out)
 }
 
-/// Runs a script that was read on threads, over a new device, which has the blocks that the script asks for, and
-/// its faults. In the fault the script's file has the name `file`.
+/// Runs a script on threads, over a new device, which has the blocks and the faults that the script asks for. In the
+/// fault, the script's file has the name `file`.
 pub fn run_script_on_threads<R: Threads + Wait + Sync, O: Write>(
     rt: &R,
     alloc: Global,
@@ -510,13 +510,14 @@ fn read_and_run<R: Threads + Wait + Sync, I: Read, O: Write>(
 }
 
 /// `memcgrun run FILE`, for a reader of the script and two writers: runs the script on threads, and writes its answers to
-/// `out`, those to what stands before the first `go` as they come, and then those of each actor's row; and behind
-/// them the verdict, in one line.
+/// `out`. The answers to the lines before the first `go` are written as they come. Then the answers of each actor's row
+/// are written, and after them the verdict, in one line.
 ///
-/// The exit status is 0 where that is `audit ok`, and 1 for another verdict, of which `err` is told nothing, or where the
-/// run fails, as [`crate::schedule`] does. It is [`read_script`], [`run_script_on_threads`] and [`status_of_run`].
+/// The exit status is 0 if the verdict is `audit ok`. It is 1 for another verdict, and then `err` gets nothing. It is also
+/// 1 if the run fails, as [`crate::schedule`] does. The call is [`read_script`], [`run_script_on_threads`] and
+/// [`status_of_run`].
 ///
-/// The clauses speak of readers whose bytes are known, and of writers that tell what they hold.
+/// The clauses are about readers whose bytes are known, and writers whose contents are known.
 pub fn run<R: Threads + Wait + Sync, I: Read, O: Write, E: Write>(
     rt: &R,
     alloc: Global,
