@@ -146,7 +146,7 @@ pub fn finish<L: Opened>(
     live: Live<L, Gate>,
     passes: Vec<Pass<L>>,
     roll: Roll<L>,
-) -> Result<(u32, Report), Fail> {
+) -> Result<(u32, Report<Gate>), Fail> {
     let mut passes = passes;
     let last = passes.pop();
     match live.finish(passes, roll) {
@@ -206,6 +206,8 @@ fn run_over<L: Opened + Send + Sync, R: Threads + Wait + Sync>(
                 trace: _,
                 replies_match,
                 audit,
+                passes: _,
+                device: _,
             } = report;
             Ok(Ended {
                 before,

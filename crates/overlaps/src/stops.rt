@@ -114,6 +114,8 @@ fn run_over<L: Opened + Send + Sync, R: Threads + Wait + Sync>(
                 trace: _,
                 replies_match,
                 audit,
+                passes: _,
+                device: _,
             } = report;
             if replies_match && audit.is_ok() {
                 Ok(answers)
