@@ -46,3 +46,14 @@ pieces_from hole before (b ∷ bs) =
 
 abbrev pub pieces_of : List ℕ → Option (List TextPiece)
 pieces_of word = pieces_from false [] word
+
+-- ---- the word again
+
+-- a piece, as a word has it
+abbrev pub as_written : Kind → List ℕ → List ℕ
+as_written kind.Text text = text
+as_written kind.Hole name = 123 ∷ (name ++ 125 ∷ [])
+
+abbrev pub all_written : List TextPiece → List ℕ
+all_written [] = []
+all_written (p ∷ ps) = as_written p.kind p.text ++ all_written ps

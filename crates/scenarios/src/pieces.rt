@@ -1,9 +1,9 @@
 //! The pieces of a word: what is taken as it is, and holes.
 
-ghost use Rattle.std.specs.Prelude.{◌≡◌, ◌<◌, ◌++◌, Some, position, IfOk, OnOk};
+ghost use Rattle.std.specs.Prelude.{ℕ, List, ◌≡◌, ◌<◌, ◌++◌, Some, position, IfOk, OnOk};
 ghost use Rattle.std.specs.Option.{option_map};
 ghost use Rattle.std.specs.String.{string_bytes};
-ghost use Rattle.scenarios.specs.Pieces.{TextPiece, is_brace, fits, piece_of, some_text, pieces_of};
+ghost use Rattle.scenarios.specs.Pieces.{TextPiece, is_brace, fits, piece_of, some_text, pieces_of, all_written};
 
 use std::alloc::{AllocError, Global};
 use std::marker::Model;
@@ -120,3 +120,8 @@ fn fits(hole: bool, before: &str, brace: u8) -> bool
         brace == b'{'
     }
 }
+
+/// A law: the pieces of a word, written one after the other, with braces around names, are the word.
+pub fn pieces_write_the_word()
+    ensures { (word : List ℕ) (ps : List TextPiece) → pieces_of word ≡ Some ps → all_written ps ≡ word }
+{}
