@@ -1,7 +1,7 @@
 //! The text of a scenario: its lines, their words, and the blocks that they form.
 //!
 //! A hole `{NAME}` may be in any word, also in a size or a task's name. So this crate reads words and forms of words, and
-//! gives none a meaning: whoever expands a line fills its holes first.
+//! gives none a meaning. An expander fills the holes of a line first.
 #![tactic(auto)]
 
 pub mod draws;

@@ -107,7 +107,7 @@ fn end_fault(number: usize, opened: &[Opened], words: &[Word]) -> Option<Fault>
 /// What has been read of a scenario.
 #[derive(Drop)]
 struct Reading {
-    /// A line came that is none of the header's.
+    /// A line came that is not a header line.
     body: bool,
     lines: Vec<Line>,
     /// The blocks that are not ended, the outermost first.
