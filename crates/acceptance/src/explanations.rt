@@ -20,7 +20,7 @@ fn a_byte_that_is_no_text_and_a_mark_of_the_encoding_are_named(rt: HostRuntime) 
         &rt,
         "a mark of UTF-8",
         b"\xef\xbb\xbfgroup /a\n",
-        "case:1: unknown word\nword 1, \"\\u{feff}group\", begins with a byte order mark, which no script may have\n",
+        "case:1: unknown word\nword 1 (\"\\u{feff}group\") begins with a byte order mark; save the script without it\n",
     );
     let utf16 = "case:1: not text\nthe script is UTF-16; save it as UTF-8\n";
     explains(
@@ -43,13 +43,13 @@ fn control_characters_are_written_out(rt: HostRuntime) {
         &rt,
         "a carriage return at the end of the last line",
         b"frames 4\r",
-        "case:1: bad number\nword 2, \"4\\r\", is not of decimal digits alone: it has to be a number from 1 to 65536\n",
+        "case:1: bad number\nword 2 (\"4\\r\") is not a number from 1 to 65536\n",
     );
     explains(
         &rt,
         "a vertical tab",
         b"group\x0b/a\n",
-        "case:1: unknown word\nword 1, \"group\\u{b}/a\", is none that a line begins with\n",
+        "case:1: unknown word\nword 1 (\"group\\u{b}/a\") is not a command; a line begins with a task's number, group, rmdir, task, attach, set, cat, prot, lowprot, daemon, begin, step, finish, go or a word of the header\n",
     );
     explains(
         &rt,
@@ -62,6 +62,6 @@ fn control_characters_are_written_out(rt: HostRuntime) {
         "an escape sequence in an amount",
         "group /a\nset /a memory.max \u{1b}[1m\n",
         "error EINVAL\n",
-        "case:2: set /a memory.max \\u{1b}[1m: EINVAL, \"\\u{1b}[1m\" is no amount: max, or a number of bytes without a zero in front, with K, M, G or T behind it or none of them\n",
+        "case:2: set /a memory.max \\u{1b}[1m: EINVAL, \"\\u{1b}[1m\" is not an amount; write max, or bytes such as 4096, 64K, 64M, 64G or 64T, with no leading zero\n",
     );
 }
