@@ -15,6 +15,7 @@ unsound_by options file script fault.TooLong (inr explains) bad = absurd explain
 unsound_by options file script (fault.Unreadable error) (inr explains) bad = absurd explains.1
 unsound_by options file script (fault.Script at.Memory) (inr explains) bad = absurd (omega (arith, bad))
 unsound_by options file script (fault.Placed at.Memory told) (inr explains) bad = absurd (omega (arith, bad))
+unsound_by options file script (fault.TooManyActors actors) (inr explains) bad = absurd (omega (arith, bad))
 unsound_by options file script (fault.Memory wanted) (inr explains) bad = absurd (omega (arith, bad))
 unsound_by options file script (fault.Unwritable error) (inr explains) bad = absurd (omega (arith, bad))
 unsound_by options file script (fault.Refused told) (inr explains) bad = absurd (omega (arith, bad))

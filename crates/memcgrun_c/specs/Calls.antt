@@ -55,6 +55,7 @@ status_of_line at.Memory = NO_MEMORY
 abbrev pub status_by : Fault → ℕ
 status_by (fault.Unreadable error) = NO_MEMORY
 status_by fault.TooLong = BAD_SCRIPT
+status_by (fault.TooManyActors actors) = NO_MEMORY
 status_by (fault.Script why) = status_of_line why
 status_by (fault.Placed why told) = status_of_line why
 status_by (fault.Memory wanted) = NO_MEMORY

@@ -59,8 +59,9 @@ fn status_by(why: &Fault) -> u8
         | Fault::Script(ScriptFault::At { .. })
         | Fault::Placed(ScriptFault::At { .. }, _) => BAD_SCRIPT,
         Fault::Refused(_) => REFUSED,
-        // A write fails here if the bytes can't be kept.
+        // A write fails here if the bytes can't be kept. No schedule is refused for the number of its actors.
         Fault::Unreadable(_)
+        | Fault::TooManyActors(_)
         | Fault::Script(ScriptFault::Memory)
         | Fault::Placed(ScriptFault::Memory, _)
         | Fault::Memory(_)
