@@ -27,6 +27,8 @@ mod merged;
 #[cfg(test)]
 mod on_threads;
 #[cfg(test)]
+mod other_bytes;
+#[cfg(test)]
 mod printed;
 #[cfg(test)]
 mod shared;
