@@ -182,7 +182,7 @@ fn it_is_said_why_a_line_is_refused(rt: HostRuntime) -> Result<(), Fail> {
     let more = explain(rt.alloc(), text, fault)?.ok_or("no more is said")?;
     assert_eq!(rt;
         more.as_str(),
-        "word 1, \"begin\", is for schedule alone: a run on threads has no turns to count"
+        "word 1 (\"begin\") works in a schedule only; threads take no turns"
     );
     Ok(())
 }

@@ -77,7 +77,7 @@ fn a_faulty_line_is_explained(rt: HostRuntime) -> Result<(), Fail> {
     fault.report(&mut err)?;
     assert_eq!(rt;
         err.as_slice(),
-        b"a.memcg:1: only in schedule\nword 1, \"step\", is for schedule alone: a run on threads has no turns to count\n".as_slice()
+        b"a.memcg:1: only in schedule\nword 1 (\"step\") works in a schedule only; threads take no turns\n".as_slice()
     );
     Ok(())
 }
