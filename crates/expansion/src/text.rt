@@ -1,0 +1,251 @@
+//! The script that a scenario stands for.
+
+use crate::expansion::{Cuts, Expansion, Item};
+use crate::fault::ExpandError;
+use crate::header::{DeviceCall, Header};
+use crate::names::Names;
+use crate::program::Program;
+use machine::command::{Actor, Command};
+use machine::config::Placement;
+use machine::event::{Op, Place};
+use machine::record::Guard;
+use scenarios::holes::Named;
+use std::alloc::{AllocError, Global};
+
+/// The text, and where its last line stands.
+#[derive(Drop)]
+struct Script {
+    text: String,
+    line: usize,
+    rounds: Vec<u32>,
+}
+
+fn add_head(text: &mut String, header: &Header) -> Result<(), AllocError> {
+    let bytes = header.page.bytes;
+    if bytes >= 1_048_576 {
+        write!(text, "# page {}M; ", bytes / 1_048_576)?;
+    } else {
+        write!(text, "# page {}K; ", bytes / 1_024)?;
+    }
+    match header.placement {
+        Placement::Linux => text.push_str("with --as-linux\n")?,
+        Placement::Own => text.push_str("without --as-linux\n")?,
+    }
+    writeln!(text, "frames {}", header.frames)?;
+    writeln!(text, "swap {}", header.swap)?;
+    if let Some(marks) = header.watermarks {
+        writeln!(text, "watermarks {} {}", marks.low, marks.high)?;
+    }
+    text.push_str("trace 1048576\n")?;
+    if header.recursive {
+        text.push_str("recursiveprot\n")?;
+    }
+    Ok(())
+}
+
+fn add_files(text: &mut String, header: &Header, names: &Names) -> Result<(), AllocError> {
+    for file in &header.files {
+        text.push_str("file ")?;
+        names.add_name(text, file.name.as_str())?;
+        writeln!(text, " {}", file.pages)?;
+    }
+    for failing in &header.failing {
+        match failing.call {
+            DeviceCall::Read => writeln!(text, "fault read {}", failing.number)?,
+            DeviceCall::Write => writeln!(text, "fault write {}", failing.number)?,
+        }
+    }
+    Ok(())
+}
+
+/// Adds the script's name of a file.
+fn add_file_name(
+    text: &mut String,
+    header: &Header,
+    names: &Names,
+    file: u32,
+) -> Result<(), AllocError> {
+    match header.files.get(file as usize) {
+        None => Ok(()),
+        Some(file) => names.add_name(text, file.name.as_str()),
+    }
+}
+
+fn add_access(
+    text: &mut String,
+    header: &Header,
+    names: &Names,
+    place: Place,
+    op: Op,
+) -> Result<(), AllocError> {
+    match place {
+        Place::Virtual { page, offset } => match op {
+            Op::Read => write!(text, "read {page} {offset}"),
+            Op::Write(byte) => write!(text, "write {page} {offset} {byte}"),
+        },
+        Place::File { file, page, offset } => {
+            match op {
+                Op::Read => text.push_str("fread ")?,
+                Op::Write(_) => text.push_str("fwrite ")?,
+            }
+            add_file_name(text, header, names, file)?;
+            match op {
+                Op::Read => write!(text, " {page} {offset}"),
+                Op::Write(byte) => write!(text, " {page} {offset} {byte}"),
+            }
+        }
+    }
+}
+
+fn add_command(
+    text: &mut String,
+    header: &Header,
+    names: &Names,
+    command: &Command,
+) -> Result<(), AllocError> {
+    match command {
+        Command::Access { place, op } => add_access(text, header, names, *place, *op),
+        Command::Fork { child } => write!(text, "fork {child}"),
+        Command::Free { page } => write!(text, "free {page}"),
+        Command::Exit => text.push_str("exit"),
+        Command::Group(path) => write!(text, "group {}", path.as_str()),
+        Command::Rmdir(path) => write!(text, "rmdir {}", path.as_str()),
+        Command::Task { task, path } => write!(text, "task {task} {}", path.as_str()),
+        Command::Attach { task, path } => write!(text, "attach {task} {}", path.as_str()),
+        Command::Set {
+            path,
+            file,
+            text: value,
+        } => write!(
+            text,
+            "set {} {} {}",
+            path.as_str(),
+            file.as_str(),
+            value.as_str()
+        ),
+        Command::Cat { path, file } => write!(text, "cat {} {}", path.as_str(), file.as_str()),
+        Command::Protection {
+            guard: Guard::Min,
+            target,
+            path,
+        } => write!(text, "prot {} {}", target.as_str(), path.as_str()),
+        Command::Protection {
+            guard: Guard::Low,
+            target,
+            path,
+        } => write!(text, "lowprot {} {}", target.as_str(), path.as_str()),
+        Command::Daemon => text.push_str("daemon"),
+    }
+}
+
+fn add_entry(
+    text: &mut String,
+    header: &Header,
+    names: &Names,
+    actor: Actor,
+    command: &Command,
+) -> Result<(), AllocError> {
+    if let Actor::Task(task) = actor {
+        write!(text, "{task} ")?;
+    }
+    add_command(text, header, names, command)
+}
+
+/// Adds a comment with the number of a scenario's line, and its rounds.
+fn add_place(text: &mut String, line: usize, rounds: &[u32]) -> Result<(), AllocError> {
+    write!(text, "# {line}")?;
+    for (depth, round) in rounds.iter().enumerate() {
+        if depth == 0 {
+            write!(text, ", round {round}")?;
+        } else {
+            write!(text, ".{round}")?;
+        }
+    }
+    Ok(())
+}
+
+impl Script {
+    /// What follows is of this line and these rounds. Of entries that is told where it is another than above.
+    fn place(
+        &mut self,
+        alloc: Global,
+        line: usize,
+        rounds: &[u32],
+        note: bool,
+    ) -> Result<(), AllocError> {
+        let same = self.line == line && self.rounds.as_slice() == rounds;
+        if note {
+            return add_place(&mut self.text, line, rounds);
+        }
+        if same {
+            return Ok(());
+        }
+        add_place(&mut self.text, line, rounds)?;
+        self.text.push('\n')?;
+        self.keep(alloc, line, rounds)
+    }
+
+    fn keep(&mut self, alloc: Global, line: usize, rounds: &[u32]) -> Result<(), AllocError> {
+        let mut copy = Vec::new(alloc);
+        for round in rounds {
+            copy.push(*round)?;
+        }
+        self.line = line;
+        self.rounds = copy;
+        Ok(())
+    }
+
+    /// Adds the lines of an item.
+    fn add(
+        &mut self,
+        alloc: Global,
+        expansion: &Expansion<'_>,
+        item: &Item,
+    ) -> Result<(), AllocError> {
+        let line = expansion.line();
+        let rounds = expansion.rounds();
+        match item {
+            Item::Note(words) => {
+                self.place(alloc, line, rounds, true)?;
+                write!(self.text, ": {}", words.as_str())?;
+                self.keep(alloc, line, rounds)?;
+            }
+            Item::Raw(words) => {
+                self.place(alloc, line, rounds, false)?;
+                self.text.push_str(words.as_str())?;
+            }
+            Item::Entry(actor, command) => {
+                self.place(alloc, line, rounds, false)?;
+                let header = expansion.header();
+                add_entry(&mut self.text, header, expansion.names(), *actor, command)?;
+            }
+        }
+        self.text.push('\n')
+    }
+}
+
+/// The script of a scenario, where these words stand in the place of what its `let` lines say and the lists with `until` have
+/// these lengths. An error is the first fault.
+pub fn expand_text(
+    alloc: Global,
+    program: &Program,
+    settings: Vec<Named>,
+    lengths: Vec<u64>,
+) -> Result<String, ExpandError> {
+    let mut expansion = Expansion::new(alloc, program, settings, Cuts::Given(lengths))?;
+    let mut script = Script {
+        text: String::new(alloc),
+        line: 0,
+        rounds: Vec::new(alloc),
+    };
+    add_head(&mut script.text, expansion.header())?;
+    add_files(&mut script.text, expansion.header(), expansion.names())?;
+    for _ in 0..u64::MAX {
+        match expansion.next()? {
+            None => break,
+            Some(item) => script.add(alloc, &expansion, &item)?,
+        }
+    }
+    let Script { text, .. } = script;
+    Ok(text)
+}
