@@ -70,7 +70,7 @@ async function tryPage(examples) {
   part('strict').dispatchEvent(new Event('change'));
   const refused = part('out').querySelector('.refused');
   if (part('out').textContent !== '3 rmdir /a: error EBUSY\n') fail('answers up to the first refused line', part('out').textContent);
-  if (!refused || !(refused.dataset.reason || '').startsWith('/a has groups below it')) fail('the reason beside it', refused && refused.dataset.reason);
+  if (!refused || !(refused.dataset.reason || '').startsWith('/a has child groups')) fail('the reason beside it', refused && refused.dataset.reason);
   if (!part('said').textContent.startsWith('stopped at line 3, ')) fail('where it stopped', part('said').textContent);
   part('strict').checked = false;
   part('strict').dispatchEvent(new Event('change'));
