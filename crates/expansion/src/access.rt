@@ -15,7 +15,7 @@ pub enum Act {
     Write,
     /// The task reads a byte of it.
     Read,
-    /// The task gives it up. Behind the last one the mark is this.
+    /// The task gives it up. After the last page the mark is this.
     Free { mark: u32 },
     /// The task reads a byte of the file's.
     FileRead { file: u32 },
@@ -48,7 +48,7 @@ impl Access {
         self.pages.at(place)
     }
 
-    /// What the task is told to do at this place, from 0: byte 0 of the page is read, or written with 1.
+    /// The task's command at this place, from 0. An access reads byte 0 of the page or writes 1 to it.
     pub fn command_at(self, place: u32) -> Command
         requires { place < page_count self.pages }
         ensures { result ≡ command_at self.act (page_at self.pages place) }
@@ -83,7 +83,7 @@ impl Access {
         }
     }
 
-    /// The task's mark behind the entry of this place, where it is this before.
+    /// The task's mark after the entry of this place, if `mark` is the one before the entry.
     pub fn mark_behind(self, place: u32, mark: u32) -> u32
         requires { place < page_count self.pages }
         ensures { result ≡ mark_behind self.act (page_count self.pages) place (page_at self.pages place) mark }
@@ -111,7 +111,7 @@ impl Access {
         }
     }
 
-    /// Where the task is in the file behind the entry of this place, if the line goes on from where it was.
+    /// The task's place in the file after the entry of this place, if the line continues from the task's place.
     pub fn place_behind(self, place: u32) -> Option<u32>
         requires { place < page_count self.pages }
         ensures { result ≡ place_behind self.pages (page_at self.pages place) }

@@ -193,7 +193,7 @@ fn next_pages(
     })
 }
 
-/// The pages of a file that the words behind its name say.
+/// The pages of a file that the words after its name say.
 fn file_pages(
     scene: &Scene,
     words: &[Filled],

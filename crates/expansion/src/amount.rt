@@ -48,7 +48,7 @@ impl PageSize {
         }
     }
 
-    /// How many pages a size is: where it is no whole page, more of them if it is used, and fewer if it is a bound.
+    /// How many pages a size is. A fraction of a page is rounded up if the size is used, and down if it is a bound.
     pub fn pages_of(self, size: Size, purpose: Purpose) -> u64
         ensures { result ≡ rounded purpose size self.bytes }
     {
@@ -58,7 +58,7 @@ impl PageSize {
         }
     }
 
-    /// The first page of a part, and the one behind its last.
+    /// The first page of a part, and the page after its last one.
     fn part_pages(self, part: Part) -> (u64, u64)
         ensures { result ≡ part_pages part self.bytes }
     {
@@ -99,7 +99,7 @@ pub fn pages_of(word: &Filled, purpose: Purpose, page: PageSize) -> Result<u64, 
     Ok(page.pages_of(size_of(word)?, purpose))
 }
 
-/// The same, where it is within these bounds.
+/// The same, if the number is within these bounds.
 pub fn pages_within(
     word: &Filled,
     purpose: Purpose,
@@ -118,7 +118,7 @@ pub fn pages_within(
     }
 }
 
-/// The first page of the part that a word is and the one behind its last, of so many that there are.
+/// The first page of the part that a word is, and the page after its last one. There are `most` pages.
 pub fn part_of(word: &Filled, page: PageSize, most: u32) -> Result<(u32, u32), ExpandError>
     ensures { IfOk result (λ pages. pages ≡ part_in page.bytes (part_of (string_bytes word.now.text))) }
 {

@@ -10,7 +10,7 @@ use machine::text::Text;
 pub enum Condition {
     /// Once this task was killed.
     Killed(u32),
-    /// Where the charge of a group is so many pages, or more.
+    /// Once the charge of a group is this number of pages, or more.
     Current { path: Path, pages: u64 },
 }
 

@@ -28,7 +28,7 @@ pub enum Item {
     Note(Text),
 }
 
-/// Where the lists with `until` are cut.
+/// How the lists with `until` are cut.
 #[derive(Drop)]
 pub enum Cuts {
     /// At these lengths, in their order. The entries end with the longest list of the first one that has no length.
@@ -44,14 +44,14 @@ struct OpenList {
     left: Option<u64>,
     /// Nothing of it comes any more: it was cut.
     cut: bool,
-    /// Where the tasks stand by the entries that are left, once it was cut.
+    /// The tasks' marks and places after the entries that are left. The cut sets them.
     standings: Vec<Standing>,
-    /// The notes behind its last entry, which stand if no other entry comes.
+    /// The notes after its last entry. They count if no other entry comes.
     notes: Vec<Placed>,
 }
 
-/// The entries and notes of a scenario, in their order. It keeps what is known between two lines, the blocks that are at work,
-/// and what the line at work stands for.
+/// The entries and notes of a scenario, in their order. It keeps what is known between two lines, the blocks that are
+/// at work, and what the line at work stands for.
 #[derive(Drop)]
 pub struct Expansion<'p> {
     lines: &'p [Line],
@@ -73,7 +73,7 @@ pub struct Expansion<'p> {
     open: Option<OpenList>,
     /// Notes that come next.
     notes: VecDeque<Placed>,
-    /// Where the last item stands.
+    /// The line and the rounds of the last item.
     told_line: usize,
     told_rounds: Vec<u32>,
 }
@@ -103,7 +103,7 @@ fn item_of(alloc: Global, deed: &Deed, place: u32) -> Result<Option<Item>, Alloc
 }
 
 impl<'p> Expansion<'p> {
-    /// The expansion of a scenario, where these words stand in the place of what its `let` lines say. Its header is read.
+    /// The expansion of a scenario, with these words instead of those of its `let` lines. It reads the header.
     pub fn new(
         alloc: Global,
         program: &'p Program,
@@ -262,7 +262,7 @@ impl<'p> Expansion<'p> {
         }
     }
 
-    /// Where the tasks stand by the entries that are left, if the list is cut here.
+    /// The tasks' marks and places after the entries that are left, if the list is cut here.
     fn left_standings(&mut self) -> Result<Vec<Standing>, AllocError> {
         let alloc = self.scene.alloc;
         let now = copy_standings(alloc, self.scene.tasks.standings())?;
@@ -418,7 +418,7 @@ impl<'p> Expansion<'p> {
         }
     }
 
-    /// Whether an item comes. It leaves behind what it does, also if it was cut away.
+    /// Whether an item comes. An entry changes the tasks' marks and places, also if it was cut away.
     fn admit(&mut self, item: &Item, deed: &Deed, place: u32) -> Result<bool, ExpandError> {
         match item {
             Item::Note(words) => self.admit_note(words),
@@ -560,7 +560,7 @@ impl<'p> Expansion<'p> {
         }
     }
 
-    /// Each list is a member, but for those in a `repeat`, which is one.
+    /// Each list is a member, except the lists in a `repeat`: they form one member.
     fn gather(&mut self, bursts: Vec<Burst>) -> Result<(), ExpandError> {
         let alone = !self.in_repeat();
         for burst in bursts {

@@ -16,7 +16,7 @@ pub enum Cause {
     EndAlone,
     /// The block has no `end`.
     NoEnd,
-    /// A word is missing behind the last one.
+    /// A word is missing after the last one.
     Missing,
     /// One word too many.
     TooMany,
@@ -38,7 +38,7 @@ pub enum Cause {
     Part,
     /// A part without a page.
     EmptyPart,
-    /// A page behind the last one that there can be.
+    /// A page after the last one that there can be.
     PastEnd,
     /// More pages than the task has.
     NotSoMany,
@@ -72,7 +72,7 @@ pub enum Cause {
     HeaderBelow,
     /// The watermarks are not in order, or above the memory.
     Watermarks,
-    /// This may not stand inside of `together`.
+    /// This is not allowed inside of `together`.
     Together,
     /// An `until` inside of another, or of `together`.
     Until,

@@ -27,7 +27,7 @@ pub enum Block {
 #[derive(Drop)]
 pub struct Frame {
     pub block: Block,
-    /// The place of its first line, of the next one, and of the one behind its last.
+    /// The place of its first line, of the next one, and of the one after its last.
     pub begin: usize,
     pub at: usize,
     pub end: usize,
@@ -41,7 +41,7 @@ pub struct Frame {
     pub scope: usize,
     /// A line that could be refused is right above the next one.
     pub above: bool,
-    /// Where the condition of its `until` begins among the words of the line that opens it.
+    /// The place of the first word of its `until` condition among the words of the line that opens it.
     pub until: Option<usize>,
     pub words: Vec<Filled>,
 }
@@ -59,7 +59,7 @@ fn copy_of(alloc: Global, text: &str) -> Result<String, ExpandError> {
     Ok(String::from_str(alloc, text)?)
 }
 
-/// The place of an `until` at this place or none, where nothing else stands.
+/// This place if its word is `until`, or none if the words end before it. Another word is a fault.
 fn until_at(words: &[Filled], place: usize) -> Result<Option<usize>, ExpandError> {
     if is_at(words, place, "until") {
         return Ok(Some(place));
@@ -141,7 +141,7 @@ impl Frame {
         }
     }
 
-    /// The block of a `repeat` with these words, before its first round. Whether no `until` may stand in it.
+    /// The block of a `repeat` with these words, before its first round. `no_until` says whether `until` is a fault.
     pub fn repeated(
         scene: &Scene,
         words: Vec<Filled>,

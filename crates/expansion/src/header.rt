@@ -233,8 +233,8 @@ impl Header {
         ends_at(words, 2)
     }
 
-    /// The page, the memory and the swap count wherever they are said. A faulty page is told before all else, and of a faulty
-    /// memory or swap nothing is known yet.
+    /// The page, the memory and the swap count wherever the header says them. A faulty page is the first fault of all.
+    /// A faulty memory or swap is skipped here: nothing is known of it yet.
     fn read_early(&mut self, lines: &[HeaderLine]) -> Result<(), ExpandError> {
         if let Some(line) = first_of(lines, "page") {
             self.read_page(line.words.as_slice())?;

@@ -48,7 +48,7 @@ fn value_text(scene: &Scene, file: &str, word: &Filled) -> Result<Text, ExpandEr
     bound_text(scene, word)
 }
 
-/// The control file of a key, whose name may stand behind `memory.`.
+/// The control file of a key. The key's name may begin with `memory.`.
 fn file_of(word: &Filled) -> Result<&'static str, ExpandError> {
     if word.quoted {
         return Err(word.fault(Cause::NotExpected));
@@ -237,8 +237,8 @@ fn line_of_word(
     }
 }
 
-/// What a line stands for: a list for each task of it, or more where it makes more. Whether a line that could be refused is
-/// right above it.
+/// What a line stands for: a list for each task of it, or more if it makes more. `above` says whether a line that could
+/// be refused is right above it.
 pub fn bursts_of(
     scene: &mut Scene,
     words: &[Filled],
@@ -257,7 +257,7 @@ pub fn bursts_of(
     Err(word.fault(Cause::NoLine))
 }
 
-/// Whether a line may stand inside of `together`: a task's accesses, `daemon` or `reclaim`.
+/// Whether a line is allowed inside of `together`: a task's accesses, `daemon` or `reclaim`.
 pub fn check_together(words: &[Filled]) -> Result<(), ExpandError> {
     let word = word_at(words, 0)?;
     if !word.quoted && is_language(word.text()) {

@@ -18,8 +18,8 @@ impl Cursor {
         self.taken < self.count
     }
 
-    /// Whether the next entry's place comes before that of another member's next one. The i-th of n entries, i from 1, has
-    /// the place i/n.
+    /// Whether the next entry's place comes before that of another member's next one. The i-th of n entries, i from 1,
+    /// has the place i/n.
     pub fn is_before(self, other: Cursor) -> bool
         requires mine { has_next self ≡ true }
         requires others { has_next other ≡ true }
@@ -30,7 +30,7 @@ impl Cursor {
     }
 }
 
-/// Which comes next of the members up to this one, where it is known of those above.
+/// Which of the members up to this one comes next, if `above` is the one of those above.
 fn next_with(members: &[Cursor], place: usize, above: Option<usize>) -> Option<usize>
     requires within { place < length members.now }
     requires known { NextOf members.now place above }
@@ -52,7 +52,7 @@ fn next_with(members: &[Cursor], place: usize, above: Option<usize>) -> Option<u
     }
 }
 
-/// The member whose next entry comes next: that of the least place, and of several at one place the one that stands first.
+/// The member whose next entry comes next: the one of the least place. If several have that place, it is the first one.
 pub fn next_member(members: &[Cursor]) -> Option<usize>
     ensures { IsNext members.now result }
 {

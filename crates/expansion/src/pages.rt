@@ -5,22 +5,22 @@ ghost use Rattle.expansion.specs.Pages.{page_count, page_at, fits, run_between};
 
 use scenarios::draws::draw;
 
-/// Pages of a task or of a file, known by how many they are and by the one of each place. Nothing of their number is kept.
+/// Pages of a task or of a file, known by their number and by the one of each place. No list of them is kept.
 #[derive(Clone, Copy, Debug, PartialEq, Eq)]
 pub enum Pages {
-    /// So many, one behind the other.
+    /// `count` pages, in sequence.
     Run {
         first: u32,
         count: u32,
     },
-    /// So many, each drawn from those of a part. One may come twice.
+    /// `count` pages, each drawn from those of a part. One may come twice.
     Drawn {
         from: u32,
         to: u32,
         seed: u32,
         count: u32,
     },
-    /// So many of a file that has this many, with its first behind its last.
+    /// `count` pages of a file that has `size` pages. Its last page is followed by its first.
     Round {
         first: u32,
         size: u32,
@@ -51,7 +51,7 @@ impl Pages {
         }
     }
 
-    /// Whether each of them is a number: a run ends within the numbers, and there is one to draw, or to go round.
+    /// Whether each of them is a number: a run ends within them, and the part to draw from or the file is not empty.
     pub fn fits(self) -> bool
         ensures { result ≡ fits self }
     {

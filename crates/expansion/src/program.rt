@@ -27,14 +27,14 @@ pub struct Line {
     pub inside: usize,
 }
 
-/// The lines with words, but for those that end blocks.
+/// The lines with words, except those that end blocks.
 #[derive(Drop)]
 pub struct Program {
     pub lines: Vec<Line>,
 }
 
-/// Where a word of a line ends, as a place among its bytes, and whether a quote is open there. It begins at the first of these
-/// bytes.
+/// The place among these bytes at which a word of a line ends, and whether a quote is open there. The word begins at
+/// the first of these bytes.
 fn word_length(bytes: &[u8]) -> (usize, bool) {
     let mut inside = false;
     for (place, byte) in bytes.iter().enumerate() {
@@ -197,8 +197,8 @@ impl Reading {
 }
 
 impl Program {
-    /// The lines of a text, or its first fault as a text: a line that is no text, a quote that is open, or blocks that are not
-    /// ended as they should.
+    /// The lines of a text, or its first fault as a text: a line that is no text, a quote that is open, or blocks that
+    /// are not ended as they should.
     pub fn read(alloc: Global, text: &[u8]) -> Result<Program, ExpandError> {
         let mut reading = Reading {
             lines: Vec::new(alloc),

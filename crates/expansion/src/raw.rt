@@ -1,11 +1,11 @@
-//! Lines of a script, behind `raw`.
+//! Lines of a script, after `raw`.
 
 use crate::fault::{Cause, ExpandError};
 use crate::word::{Filled, ends_at, word_at};
 use text_forms::name::{is_name, is_path};
 use text_forms::number::{is_digits, number_of};
 
-/// What stands at a place of a script's line.
+/// What a word of a script's line is.
 #[derive(Clone, Copy, Debug, PartialEq, Eq)]
 enum Kind {
     Number,
@@ -80,7 +80,7 @@ fn check_arguments(words: &[Filled], place: usize, kinds: &[Kind]) -> Result<(),
     ends_at(words, place.saturating_add(kinds.len()))
 }
 
-/// Whether the words of a line behind `raw` are a line of a script that may stand behind its header.
+/// Whether the words after `raw` are a line of a script that is allowed after its header.
 pub fn check_raw(words: &[Filled]) -> Result<(), ExpandError> {
     let begun = word_at(words, 1)?.text() == "begin";
     let place = if begun { 2 } else { 1 };

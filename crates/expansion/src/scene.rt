@@ -22,7 +22,7 @@ pub struct Scene {
     pub names: Names,
     /// The newest value of a name comes first.
     values: Vec<Named>,
-    /// What stands in the place of a `let`'s word.
+    /// The words that replace those of `let` lines.
     settings: Vec<Named>,
     groups: Vec<Path>,
     pub tasks: Tasks,
@@ -33,7 +33,7 @@ pub struct Scene {
 }
 
 impl Scene {
-    /// Nothing is known yet, but what stands in the place of a `let`'s word.
+    /// Nothing is known yet, except the words that replace those of `let` lines.
     pub fn new(alloc: Global, settings: Vec<Named>) -> Scene {
         Scene {
             alloc,
@@ -158,7 +158,7 @@ impl Scene {
         }
     }
 
-    /// The same, but for the root.
+    /// The same, except that the root is a fault.
     pub fn group_below_root(&self, word: &Filled) -> Result<Path, ExpandError> {
         let path = self.group_there(word)?;
         if path.is_root() {

@@ -36,7 +36,7 @@ struct Brackets {
 }
 
 impl Brackets {
-    /// Adds a character, and says whether it may stand there.
+    /// Adds a character, and says whether it is allowed there.
     fn add(&mut self, character: char) -> Result<bool, AllocError> {
         if character == '"' {
             self.inside_quotes = !self.inside_quotes;

@@ -1,4 +1,4 @@
-//! The tasks that a scenario has started, and where each stands.
+//! The tasks that a scenario has started, with the mark of each and its places in files.
 
 use std::alloc::{AllocError, AllocFailed, Global};
 use std::collections::{BTreeMap, HashMap};
@@ -6,7 +6,7 @@ use std::collections::{BTreeMap, HashMap};
 /// Tasks that a scenario may start, at most.
 pub const MOST_TASKS: u32 = 65_535;
 
-/// Where a task stands: behind the last page that it was let write, and in each file by its place.
+/// A task's mark, which is the page after the last one that a line let it write, and its place in each file.
 #[derive(Drop)]
 pub struct Standing {
     pub mark: u32,
@@ -29,7 +29,7 @@ pub struct Tasks {
     alloc: Global,
     count: u32,
     families: HashMap<String, Family>,
-    /// By a task's number less one. Behind the end nothing was written.
+    /// By a task's number less one. A task past the end has written nothing.
     standings: Vec<Standing>,
 }
 
@@ -115,17 +115,17 @@ impl Tasks {
         Ok(task)
     }
 
-    /// Where all stand.
+    /// The marks and places of all tasks.
     pub fn standings(&self) -> &[Standing] {
         self.standings.as_slice()
     }
 
-    /// They stand there.
+    /// The tasks get these marks and places.
     pub fn stand(&mut self, standings: Vec<Standing>) {
         self.standings = standings;
     }
 
-    /// Behind the last page that the task was let write: 0, if it wrote none.
+    /// The page after the last one that a line let the task write: 0, if it wrote none.
     pub fn mark(&self, task: u32) -> u32 {
         match self.standings.get((task as usize).saturating_sub(1)) {
             None => 0,
@@ -133,7 +133,7 @@ impl Tasks {
         }
     }
 
-    /// The task's standing, made if it has none.
+    /// Adds an entry for the task to the `standings` if it has none.
     fn reserve(&mut self, task: u32) -> Result<(), AllocError> {
         let wanted = task as usize;
         for _ in self.standings.len()..wanted {
@@ -153,7 +153,7 @@ impl Tasks {
         Ok(())
     }
 
-    /// Where the task is in a file.
+    /// The task's place in a file.
     pub fn place_in(&self, task: u32, file: u32) -> u32 {
         match self.standings.get((task as usize).saturating_sub(1)) {
             None => 0,
@@ -170,7 +170,7 @@ impl Tasks {
     }
 }
 
-/// The number of this place, where those before it that are missing are 0.
+/// Sets the number of this place. Those before it that are missing become 0.
 fn set_at(places: &mut Vec<u32>, file: u32, place: u32) -> Result<(), AllocError> {
     for _ in places.len()..(file as usize) + 1 {
         places.push(0)?;

@@ -12,7 +12,7 @@ use machine::record::Guard;
 use scenarios::holes::Named;
 use std::alloc::{AllocError, Global};
 
-/// The text, and where its last line stands.
+/// The text, with the scenario's line and the rounds of its last entry.
 #[derive(Drop)]
 struct Script {
     text: String,
@@ -165,7 +165,7 @@ fn add_place(text: &mut String, line: usize, rounds: &[u32]) -> Result<(), Alloc
 }
 
 impl Script {
-    /// What follows is of this line and these rounds. Of entries that is told where it is another than above.
+    /// What follows is of this line and these rounds. For an entry a comment says so only if they differ from above.
     fn place(
         &mut self,
         alloc: Global,
@@ -224,8 +224,8 @@ impl Script {
     }
 }
 
-/// The script of a scenario, where these words stand in the place of what its `let` lines say and the lists with `until` have
-/// these lengths. An error is the first fault.
+/// The script of a scenario, with these words instead of those of its `let` lines and with these lengths of the lists
+/// with `until`. An error is the first fault.
 pub fn expand_text(
     alloc: Global,
     program: &Program,

@@ -43,7 +43,7 @@ struct Member {
 pub struct Together {
     members: Vec<Member>,
     cursors: Vec<Cursor>,
-    /// Where the tasks stood before it, if it may be cut.
+    /// The tasks' marks and places before it, if it may be cut.
     pub before: Option<Vec<Standing>>,
 }
 
@@ -55,7 +55,7 @@ pub struct Turn {
     pub place: u32,
 }
 
-/// What the first entries of a list, so many, leave behind.
+/// Changes the tasks' marks and places as the first `many` entries of a list do.
 pub fn leave_behind(tasks: &mut Tasks, deed: &Deed, many: u32) -> Result<(), AllocError> {
     match deed {
         Deed::Access(access) => {
@@ -75,7 +75,7 @@ pub fn leave_behind(tasks: &mut Tasks, deed: &Deed, many: u32) -> Result<(), All
     }
 }
 
-/// What the entry of this place leaves behind.
+/// Changes the task's mark and places as the entry of this place does.
 fn leave_entry(tasks: &mut Tasks, access: Access, place: u32) -> Result<(), AllocError> {
     if place >= access.count() {
         return Ok(());
@@ -91,7 +91,7 @@ fn leave_entry(tasks: &mut Tasks, access: Access, place: u32) -> Result<(), Allo
     }
 }
 
-/// What an entry of any list leaves behind.
+/// Changes the tasks' marks and places as an entry of any list does.
 pub fn leave_one(tasks: &mut Tasks, deed: &Deed, place: u32) -> Result<(), AllocError> {
     match deed {
         Deed::Access(access) => leave_entry(tasks, *access, place),
@@ -160,7 +160,7 @@ impl Together {
         }
     }
 
-    /// What the entries that were taken leave behind, one member after the other.
+    /// Changes the tasks' marks and places as the entries that were taken do, one member after the other.
     pub fn leave_taken(&self, tasks: &mut Tasks) -> Result<(), AllocError> {
         for member in &self.members {
             member.leave_taken(tasks)?;
@@ -170,7 +170,7 @@ impl Together {
 }
 
 impl Member {
-    /// Its next entry was taken. Behind the last one of a list stands the first of the next.
+    /// Its next entry was taken. The last entry of a list is followed by the first of the next list.
     fn take(&mut self) {
         let Some(placed) = self.list.get(self.at) else {
             return;

@@ -10,7 +10,7 @@ use std::alloc::{AllocError, Global};
 pub struct Written {
     /// Of its first character, from 1.
     pub column: usize,
-    /// Right behind its last character.
+    /// Right after its last character.
     pub end: usize,
     /// With its quotes and holes.
     pub source: String,
@@ -128,7 +128,7 @@ pub fn fill_words(
     Ok(all)
 }
 
-/// The word of this place. Where there is none, it is missing behind the last one.
+/// The word of this place. If there is none, it is missing after the last one.
 pub fn word_at(words: &[Filled], place: usize) -> Result<&Filled, ExpandError> {
     if place < words.len() {
         return Ok(&words[place]);
@@ -139,7 +139,7 @@ pub fn word_at(words: &[Filled], place: usize) -> Result<&Filled, ExpandError> {
     }
 }
 
-/// No word stands at this place.
+/// The words end before this place.
 pub fn ends_at(words: &[Filled], place: usize) -> Result<(), ExpandError> {
     match words.get(place) {
         None => Ok(()),
@@ -147,7 +147,7 @@ pub fn ends_at(words: &[Filled], place: usize) -> Result<(), ExpandError> {
     }
 }
 
-/// Whether this word of the language stands at this place.
+/// Whether the word at this place is this word of the language.
 pub fn is_at(words: &[Filled], place: usize, text: &str) -> bool {
     match words.get(place) {
         None => false,
@@ -155,7 +155,7 @@ pub fn is_at(words: &[Filled], place: usize, text: &str) -> bool {
     }
 }
 
-/// This word of the language stands at this place.
+/// The word at this place is this word of the language.
 pub fn expect_at(words: &[Filled], place: usize, text: &str) -> Result<(), ExpandError> {
     let word = word_at(words, place)?;
     if word.is(text) {
