@@ -2,11 +2,9 @@
 use Rattle.std.proofs.Common.{◌≡◌, inl, inr, ℕ, zero, suc, ◌<◌, arith, true, false, List, [], Option, Some, None, refl, sym, ap, subst, ◌∙◌}
 use Rattle.std.specs.Prelude.{option_map}
 use Rattle.std.proofs.lemmas.Bool.{and_parts}
-use Rattle.machine.specs.declared.record.Task.{Task}
-use Rattle.machine.specs.Slots.{there_and}
 use Rattle.machine.specs.Tree.{Node, node_at, is_live, under, under_at}
-use Rattle.machine.specs.Tasks.{Tasks, task_at, is_live_task, lives, group_of, group_of_task}
-use Rattle.machine.specs.Victim.{is_live_under, is_candidate, IsVictim, kill_group_of, IsVictims}
+use Rattle.machine.specs.Tasks.{lives, group_of_task}
+use Rattle.machine.specs.Victim.{IsVictim, kill_group_of, IsVictims}
 use Rattle.machine.specs.State.{State}
 use Rattle.machine.specs.Reclaim.{stands, target_of, has_takeable, has_transfer}
 use Rattle.machine.specs.declared.id.GroupId.{GroupId}

@@ -11,4 +11,5 @@ pub mod HistoryLemmas
 pub mod TicketLemmas
 pub mod CallLemmas
 pub mod PassLemmas
+mod LookLemmas
 mod KillLemmas

@@ -1,6 +1,6 @@
 -- What each change of the parts is to the plain machine: changes that move no page.
 use Rattle.std.proofs.Common.{◌≡◌, ◌⊎◌, inr, ℕ, zero, suc, ◌<◌, ◌≤◌, ◌&&◌, Bool, true, false, cond, List, [], ◌∷◌, ◌++◌, Option, Some, None, refl, sym, ap, subst, ◌∙◌, arith}
-use Rattle.std.specs.Prelude.{IfSome, nat_lt, slice_set, slice_index}
+use Rattle.std.specs.Prelude.{IfSome, nat_lt, slice_index}
 use Rattle.machine.specs.declared.record.Key.TheVariants as key
 use Rattle.machine.specs.declared.record.Life.{Life}
 use Rattle.machine.specs.declared.record.Life.TheVariants.{Live, Exited, Killed}
@@ -19,7 +19,7 @@ use Rattle.machine.specs.declared.reply.Reply.{Reply}
 use Rattle.machine.specs.declared.reply.Reply.TheVariants as reply
 use Rattle.machine.specs.Slots.{at, there_and}
 use Rattle.machine.specs.Pages.{Held, Page, Pages, file_page, is_held_in, in_transfer}
-use Rattle.machine.specs.Counts.{no_limits, limits_at, no_counts, with_event}
+use Rattle.machine.specs.Counts.{no_limits, no_counts, with_event}
 use Rattle.machine.specs.Tasks.{Tasks, PageTables, task_at, lives, mapped_at}
 use Rattle.machine.specs.State.{State, Opening}
 use Rattle.machine.specs.Access.{Meeting, Hits, page_size, meets, Unmapped, NeedsPage, NeedsCopy, NeedsSwapIn, NeedsRead, task_pages, is_place, charges, Transferring}

@@ -8,7 +8,7 @@
 pub use book::Book;
 pub use event::{Event, Reply};
 pub use kept::{Asked, Kept};
-pub use looks::{GroupLook, Tally, Victim};
+pub use looks::{GroupLook, Mapping, PageLook, Tally, Victim};
 pub use pages::{InTicket, OutTicket};
 pub use pass::Pass;
 

@@ -1,20 +1,24 @@
 //! Looks at a book. They are not events, and nothing changes.
 
-ghost use Rattle.std.specs.Prelude.{◌≡◌, ◌+◌, length, option_map, IfSome};
+ghost use Rattle.std.specs.Prelude.{◌≡◌, ℕ, ◌+◌, ◌<◌, length, option_map, IfSome, true};
 ghost use Rattle.machine.specs.Pages.{used_frames, used_swap, in_transfer};
 ghost use Rattle.machine.specs.Reclaim.{target_of};
 ghost use Rattle.machine.specs.Tasks.{size_of};
 ghost use Rattle.machine.specs.Victim.{IsVictims};
-ghost use Rattle.book.specs.Looks.{look_at, stat_at, max_seq_at, candidates, dying_of};
+ghost use Rattle.book.specs.Looks.{look_at, stat_at, max_seq_at, candidates, is_as_large, count_as_large, IsNextAsLarge, dying_of, shows, IsFirstIn, IsFirstMapping, IsPageLook};
 
 use crate::book::Book;
 use crate::decide::target_of;
+use group_tree::Tree;
 use machine::amount::Amount;
 use machine::event::Cause;
-use machine::id::{GroupId, TaskId};
-use machine::record::{EventCounts, MemoryStat};
+use machine::id::{GroupId, PageId, TaskId, TicketId};
+use machine::limit::TASK_PAGES;
+use machine::record::{EventCounts, Kind, MemoryStat};
 use oom::{is_candidate, victims};
 use page_state::State;
+use pages::Pages;
+use spaces::Spaces;
 
 /// The state of a group at some moment.
 #[derive(Clone, Copy, Debug, PartialEq, Eq)]
@@ -41,10 +45,31 @@ pub struct Victim {
     pub pages: usize,
     /// How many tasks are live at or below the group under which room is needed, including the victim.
     pub tasks: u32,
+    /// How many of the other tasks map the same number of pages. All of them have higher numbers than the victim.
+    pub as_large: u32,
     /// The group under which room is needed.
     pub limit: GroupId,
     /// The group that dies with it: all live tasks in and below it. `None` if only the victim dies.
     pub group: Option<GroupId>,
+}
+
+/// A virtual page of a task.
+#[derive(Clone, Copy)]
+pub struct Mapping {
+    pub task: TaskId,
+    pub page: u32,
+}
+
+/// A page in transfer.
+#[derive(Clone, Copy)]
+pub struct PageLook {
+    pub page: PageId,
+    /// The group that is charged for it.
+    pub group: GroupId,
+    pub kind: Kind,
+    /// The virtual page that maps it, of the lowest task number and there of the lowest page number. `None` if no task
+    /// maps it, as with each page of a file.
+    pub mapping: Option<Mapping>,
 }
 
 /// The free frames and blocks, the transfers and the entries of a whole machine.
@@ -71,6 +96,102 @@ fn candidates(state: &State, limit: GroupId) -> u32
         }
     }
     count
+}
+
+/// Whether another live task at or under the limit maps as many pages as the victim.
+fn is_as_large(tree: &Tree, spaces: &Spaces, limit: GroupId, victim: TaskId, task: TaskId) -> bool
+    ensures { result ≡ is_as_large tree.now spaces.now.tasks spaces.now.page_tables limit.0 victim.0 task.0 }
+{
+    is_candidate(tree, spaces, limit, task)
+        && spaces.size(task) == spaces.size(victim)
+        && task.0 != victim.0
+}
+
+/// How many such tasks there are.
+fn count_as_large(tree: &Tree, spaces: &Spaces, limit: GroupId, victim: TaskId) -> u32
+    ensures { result ≡ count_as_large tree.now spaces.now.tasks spaces.now.page_tables limit.0 victim.0 }
+{
+    let mut count = 0;
+    for task in 0..spaces.slots() as u32 {
+        if is_as_large(tree, spaces, limit, victim, TaskId(task)) {
+            count += 1;
+        }
+    }
+    count
+}
+
+/// The next such task after this number.
+fn next_as_large(
+    tree: &Tree,
+    spaces: &Spaces,
+    limit: GroupId,
+    victim: TaskId,
+    after: TaskId,
+) -> Option<TaskId>
+    ensures { IsNextAsLarge tree.now spaces.now.tasks spaces.now.page_tables limit.0 victim.0 after.0 (option_map (λ t. t.0) result) }
+{
+    for task in after.0..spaces.slots() as u32 {
+        if task > after.0 && is_as_large(tree, spaces, limit, victim, TaskId(task)) {
+            return Some(TaskId(task));
+        }
+    }
+    None
+}
+
+/// Whether the virtual page of the task maps the page.
+fn maps(spaces: &Spaces, task: TaskId, at: u32, page: PageId) -> bool
+    ensures { result ≡ shows spaces.now.page_tables page.0 task.0 at }
+{
+    match spaces.page(task, at) {
+        Some(mapped) => mapped.0 == page.0,
+        None => false,
+    }
+}
+
+/// The first virtual page of the task that maps the page.
+fn first_in(spaces: &Spaces, task: TaskId, page: PageId) -> Option<u32>
+    ensures { IsFirstIn spaces.now.page_tables page.0 task.0 result }
+{
+    spaces.owners();
+    for at in 0..TASK_PAGES {
+        if maps(spaces, task, at, page) {
+            return Some(at);
+        }
+    }
+    None
+}
+
+/// The virtual page that maps the page, of the lowest task number and there of the lowest page number.
+fn first_mapping(spaces: &Spaces, page: PageId) -> Option<Mapping>
+    ensures { IsFirstMapping spaces.now.page_tables page.0 result }
+{
+    spaces.owners();
+    for task in 0..spaces.slots() as u32 {
+        if let Some(at) = first_in(spaces, TaskId(task), page) {
+            return Some(Mapping {
+                task: TaskId(task),
+                page: at,
+            });
+        }
+    }
+    None
+}
+
+/// The page that is in transfer under this ticket.
+fn page_in_transfer(pages: &Pages, spaces: &Spaces, ticket: TicketId) -> Option<PageLook>
+    ensures { IsPageLook pages.now.pages spaces.now.page_tables ticket.0 result }
+{
+    pages.are_in_flight();
+    let page = pages.flight(ticket)?.page;
+    let (Some(group), Some(kind)) = (pages.group(page), pages.kind(page)) else {
+        unreachable!()
+    };
+    Some(PageLook {
+        page,
+        group,
+        kind,
+        mapping: first_mapping(spaces, page),
+    })
 }
 
 impl Book {
@@ -130,6 +251,8 @@ impl Book {
         ensures who { IsVictims self.now.state.tree self.now.state.flags self.now.state.tasks self.now.state.page_tables (target_of cause) (option_map dying_of result) }
         ensures pages { IfSome result (λ v. v.pages ≡ size_of self.now.state.page_tables v.task.0) }
         ensures tasks { IfSome result (λ v. v.tasks ≡ candidates self.now.state.tree self.now.state.tasks (target_of cause)) }
+        ensures as_large { IfSome result (λ v. v.as_large ≡ count_as_large self.now.state.tree self.now.state.tasks self.now.state.page_tables (target_of cause) v.task.0) }
+        ensures lowest { IfSome result (λ v. (t : ℕ) → is_as_large self.now.state.tree self.now.state.tasks self.now.state.page_tables (target_of cause) v.task.0 t ≡ true → v.task.0 < t) }
         ensures limit { IfSome result (λ v. v.limit.0 ≡ target_of cause) }
     {
         let limit = target_of(cause);
@@ -143,8 +266,31 @@ impl Book {
             task: chosen.victim,
             pages: self.state.spaces().size(chosen.victim),
             tasks: candidates(&self.state, limit),
+            as_large: count_as_large(self.state.tree(), self.state.spaces(), limit, chosen.victim),
             limit,
             group: chosen.group,
         })
+    }
+
+    /// The next task after this number that is live at or below the victim's limit group and maps as many pages as the
+    /// victim. The call looks at each later task number.
+    pub fn next_as_large(&self, victim: &Victim, after: TaskId) -> Option<TaskId>
+        ensures { IsNextAsLarge self.now.state.tree self.now.state.tasks self.now.state.page_tables victim.now.limit.0 victim.now.task.0 after.0 (option_map (λ t. t.0) result) }
+    {
+        next_as_large(
+            self.state.tree(),
+            self.state.spaces(),
+            victim.limit,
+            victim.task,
+            after,
+        )
+    }
+
+    /// The page that is in transfer under this ticket. `None` if there is no such transfer. The call looks at the page
+    /// tables of all tasks up to the first that maps the page.
+    pub fn page_in_transfer(&self, ticket: TicketId) -> Option<PageLook>
+        ensures { IsPageLook self.now.state.pages self.now.state.page_tables ticket.0 result }
+    {
+        page_in_transfer(self.state.pages(), self.state.spaces(), ticket)
     }
 }

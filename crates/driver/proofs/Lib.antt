@@ -12,7 +12,4 @@ pub mod FindLemmas
 pub mod TracedLemmas
 pub mod Runs
 pub mod SinkLemmas
-pub mod TurnExamples
-pub mod TaskExamples
-pub mod RemovalExamples
-pub mod FileExamples
+pub mod StepLemmas

@@ -1,5 +1,5 @@
 -- The trace of a run, with the ends of the transfers that the run left open.
-use Rattle.std.specs.Prelude.{◌≡◌, Bool, true, false, List, [], ◌∷◌, ◌++◌, reverse}
+use Rattle.std.specs.Prelude.{◌≡◌, ℕ, ◌+◌, ◌≤◌, Bool, true, false, List, [], ◌∷◌, ◌++◌, reverse}
 use Rattle.machine.specs.declared.config.Config.{Config}
 use Rattle.machine.specs.declared.entry.Entry.{Entry}
 use Rattle.machine.specs.declared.event.Event.{Event}
@@ -10,6 +10,7 @@ use Rattle.machine.specs.Call.{Past}
 use Rattle.machine.specs.FirstBytes.{first_of}
 use Rattle.machine.specs.Audit.{Passes}
 use Rattle.block_store.specs.Device.{Disk}
+use Rattle.driver.specs.Schedule.{World, Schedules, errors}
 use Rattle.driver.specs.Sinks.{Gives}
 
 -- a transfer ends, and the call of the device failed, or was not made
@@ -33,4 +34,12 @@ pub record GivesUp (old new : List Entry) : Type 0 where
 pub record GivesTrace {S : Type 0} (took : S → S → List Told_by → Type 0) (saw : S → S → List Past → Type 0) (config : Config) (before : Disk) (steps : List Step) (old new : S) (after : Disk) (entries : List Entry) : Type 0 where
   pub gives : Gives took saw config before steps old new after
   pub traced : GivesUp gives.schedules.end.past.history (reverse entries)
+  pub passes : Passes (first_of (reverse entries)) (reverse entries)
+
+-- a run that went from the opening world to this one a step at a time, and was closed there: the answers to its steps are those of the plain machine, which are at most as many EIO
+-- as calls of the device failed meanwhile, and an audit finds nothing wrong in its entries. (Excludes a closing that hands out the trace of another run.)
+pub record Closes (config : Config) (before : Disk) (steps : List Step) (answers : List Told_by) (end : World) (entries : List Entry) : Type 0 where
+  pub schedules : Schedules config before steps answers end.disk
+  pub ends : schedules.end ≡ end
+  pub failures : errors answers + before.failures ≤ end.disk.failures
   pub passes : Passes (first_of (reverse entries)) (reverse entries)

@@ -23,7 +23,7 @@ ghost use Rattle.driver.specs.Hands.{OwnSeats};
 
 use crate::marked::MarkedBook;
 use crate::seat::{Activity, Outcome, Seat};
-use crate::seats::Seats;
+use crate::seats::{Notice, Seats};
 use crate::sink::{Closed, Cut, Sink};
 use crate::{calls, seats};
 use block_store::BlockDevice;
@@ -308,14 +308,17 @@ impl Desk {
         Ok(())
     }
 
-    /// Shows the book to the sink if the next turn of the actor at this place asks for relief.
-    fn show_relief<S: Sink>(&self, at: usize, place: usize, sink: &mut S)
+    /// Shows the book to the sink if the next turn of the actor at this place asks for relief, or reports a failed call
+    /// of the device.
+    fn give_notice<S: Sink>(&self, at: usize, place: usize, sink: &mut S)
         requires { place < length self.now.seats }
         ensures quiet { S.took sink.old sink.new [] }
         ensures unseen { S.saw sink.old sink.new [] }
     {
-        if let Some(cause) = self.seats.relief_at(place) {
-            sink.see_relief(at, self.book.book(), cause);
+        match self.seats.notice_at(place) {
+            Some(Notice::Relief(cause)) => sink.see_relief(at, self.book.book(), cause),
+            Some(Notice::Failure(call)) => sink.see_failure(at, self.book.book(), call),
+            None => {}
         }
     }
 
@@ -369,7 +372,7 @@ impl Desk {
         ensures on { IsOn self.new (D.disk device.new) }
         ensures same { IsSame (D.disk device.old) (D.disk device.new) }
     {
-        self.show_relief(at, place, sink);
+        self.give_notice(at, place, sink);
         self.book.history_is_right();
         let shown = self.turn(device, actor, place, None)?;
         self.book.history_is_right();
@@ -433,7 +436,7 @@ impl Desk {
     {
         let mut lent = lent;
         for _turn in 0..self.turns {
-            self.show_relief(at, place, sink);
+            self.give_notice(at, place, sink);
             self.book.history_is_right();
             let outcome = self.turn(device, actor, place, lent)?;
             lent = None;
@@ -558,7 +561,7 @@ impl Desk {
     }
 
     /// One step, which is at this place in the schedule. After it the sink may look at the book.
-    fn run_one<D: BlockDevice, S: Sink>(
+    pub fn run_one<D: BlockDevice, S: Sink>(
         &mut self,
         device: &mut D,
         at: usize,

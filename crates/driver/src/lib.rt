@@ -9,7 +9,8 @@ pub use machine::command::{Actor, Answer, Command, Reply, Step, Word};
 pub use machine::config::{Config, Placement};
 pub use schedule::{run, run_into};
 pub use schedules::{Entry, Line, Schedule, Steps};
-pub use sink::{Closed, Sink, Stop};
+pub use sink::{Closed, FailedCall, Sink, Stop};
+pub use stepper::Stepper;
 
 mod calls;
 mod desk;
@@ -19,3 +20,4 @@ mod schedule;
 mod seat;
 mod seats;
 mod sink;
+mod stepper;

@@ -85,7 +85,8 @@ pub fn run_into<D: BlockDevice, S: Sink>(
     }
 }
 
-fn stop_of(cut: Cut) -> Stop
+/// Why a run into a sink fails if it was cut short.
+pub fn stop_of(cut: Cut) -> Stop
     ensures { IsCut result }
 {
     match cut {

@@ -8,10 +8,11 @@ ghost use Rattle.turns.specs.Turns.{answer_by};
 ghost use Rattle.driver.specs.Hands.{OwnActivity, OwnSeats};
 
 use crate::seat::{Activity, Outcome, Seat};
-use crate::sink::{Closed, Sink};
+use crate::sink::{Closed, FailedCall, Sink};
 use indexmap::IndexSet;
 use machine::command::{Actor, Answer, Command, Reply, Word};
 use machine::event::Cause;
+use machine::record::Direction;
 use std::alloc::{AllocError, Global};
 use std::marker::Model;
 use std::mem;
@@ -39,6 +40,15 @@ impl Model for Seats {
     ghost view = { λ s. s.list.items };
 
     ghost invariant = { λ s. s.numbers.keys ≡ numbers_of s.list.items };
+}
+
+/// What a sink sees before a turn.
+#[derive(Clone, Copy)]
+pub enum Notice {
+    /// The turn asks for relief, for this cause.
+    Relief(Cause),
+    /// The turn reports this failed call of the device.
+    Failure(FailedCall),
 }
 
 /// Different actors have different numbers.
@@ -127,13 +137,23 @@ impl Seats {
         }
     }
 
-    /// Why the command of the actor at this place asks for relief in its next turn, if it does.
-    pub fn relief_at(&self, place: usize) -> Option<Cause>
+    /// What the next turn of the actor at this place will ask for, if a sink sees it before.
+    pub fn notice_at(&self, place: usize) -> Option<Notice>
         requires { place < length self.now }
     {
         match &self.list[place].activity {
-            Activity::Does(Stage::MakeRoom(_, cause)) => Some(*cause),
-            Activity::Does(Stage::Lower(group)) => Some(Cause::Lower(*group)),
+            Activity::Does(Stage::MakeRoom(_, cause)) => Some(Notice::Relief(*cause)),
+            Activity::Does(Stage::Lower(group)) => Some(Notice::Relief(Cause::Lower(*group))),
+            Activity::Does(Stage::FetchFail(ticket)) => Some(Notice::Failure(FailedCall {
+                direction: Direction::In,
+                ticket: ticket.number(),
+                block: ticket.block(),
+            })),
+            Activity::Does(Stage::LeaveFail(ticket)) => Some(Notice::Failure(FailedCall {
+                direction: Direction::Out,
+                ticket: ticket.number(),
+                block: ticket.block(),
+            })),
             _ => None,
         }
     }

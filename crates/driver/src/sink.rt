@@ -7,6 +7,8 @@ ghost use Rattle.machine.specs.Call.{Past};
 use book::Book;
 use machine::command::Reply;
 use machine::event::Cause;
+use machine::id::TicketId;
+use machine::record::Direction;
 use machine::refusal::Refusal;
 use std::alloc::AllocError;
 
@@ -14,8 +16,19 @@ use std::alloc::AllocError;
 #[derive(Clone, Copy)]
 pub struct Closed;
 
+/// A call of the device that failed.
+#[derive(Clone, Copy)]
+pub struct FailedCall {
+    /// `In` if a block could not be read, `Out` if it could not be written.
+    pub direction: Direction,
+    /// The ticket of the page's transfer.
+    pub ticket: TicketId,
+    /// The block, counted over the whole device. The first ones are the swap blocks.
+    pub block: u32,
+}
+
 /// Takes the answers of a run, each as it comes: a list keeps them, a writer prints them. It may look at the book
-/// between two steps, and before a relief, which may kill a task.
+/// between two steps, before a relief, which may kill a task, and before the end of a transfer that failed.
 pub trait Sink {
     /// From the first state to the second, it took these answers, in this order, and no other.
     ghost took: { Self → Self → List Told_by → Type 0 };
@@ -42,6 +55,12 @@ pub trait Sink {
     /// Sees the book, and why room is needed, before a turn of that step asks for relief, which may kill a task. No
     /// clause says that this happens.
     fn see_relief(&mut self, step: usize, book: &Book, cause: Cause)
+        ensures unseen { saw self.old self.new [] }
+        ensures quiet { took self.old self.new [] };
+
+    /// Sees the book before a turn of that step reports this failed call. The page is still in transfer, and the answer
+    /// of the turn is `EIO`. No clause says that this happens.
+    fn see_failure(&mut self, step: usize, book: &Book, call: FailedCall)
         ensures unseen { saw self.old self.new [] }
         ensures quiet { took self.old self.new [] };
 
@@ -73,6 +92,8 @@ impl Sink for Vec<Reply> {
     fn look(&mut self, _step: usize, _book: &Book) {}
 
     fn see_relief(&mut self, _step: usize, _book: &Book, _cause: Cause) {}
+
+    fn see_failure(&mut self, _step: usize, _book: &Book, _call: FailedCall) {}
 
     ghost nothing = { λ s. sym (append-nil s.items) };
 

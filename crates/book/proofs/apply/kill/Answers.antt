@@ -1,4 +1,4 @@
-use Rattle.std.proofs.Common.{◌<◌, ◌≤◌, ◌^◌, ◌∙◌, ℕ, refl, sym, ap, subst, arith}
+use Rattle.std.proofs.Common.{◌^◌, ◌∙◌, sym, ap, arith}
 use Rattle.machine.specs.declared.record.Key.TheVariants as key
 use Rattle.machine.specs.Tasks.{Tasks, task_at}
 use Rattle.book.proofs.JudgeLemmas.{known-home}

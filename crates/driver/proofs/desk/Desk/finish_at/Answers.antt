@@ -15,7 +15,7 @@ pub returns-then-ends-clause-finishes : goal.returns-then-ends-clause-finishes
 returns-then-ends-clause-finishes g c =
     let k = c.loop-turn.invariant.goes in (
       all_said c.args.actor k.0 ++ said_at c.args.actor c.in_ok-outcome.outcome,
-      g.met.S.Sink.more _ _ _ _ _ (took_none g.S.Sink.took g.met.S.Sink.more _ _ _ _ k.2 c.show_relief.ensures.quiet) c.in_ok-say.ensures.said,
+      g.met.S.Sink.more _ _ _ _ _ (took_none g.S.Sink.took g.met.S.Sink.more _ _ _ _ k.2 c.give_notice.ensures.quiet) c.in_ok-say.ensures.said,
       (
         k.0,
         lent_to (world c.loop-turn.self (g.D.BlockDevice.disk c.loop-turn.device)) c.args.actor c.loop-turn.lent,
@@ -43,14 +43,14 @@ loop-turn-preserved g c =
       goes = (
         k.0 ++ c.in_ok-outcome.outcome ∷ [],
         length-append k.0 (c.in_ok-outcome.outcome ∷ []) ∙ ap (λ n. n + 1) k.1,
-        subst (g.S.Sink.took _ _) (sym (all_said-more c.args.actor k.0 c.in_ok-outcome.outcome)) (g.met.S.Sink.more _ _ _ _ _ (took_none g.S.Sink.took g.met.S.Sink.more _ _ _ _ k.2 c.show_relief.ensures.quiet) c.in_ok-say.ensures.said),
+        subst (g.S.Sink.took _ _) (sym (all_said-more c.args.actor k.0 c.in_ok-outcome.outcome)) (g.met.S.Sink.more _ _ _ _ _ (took_none g.S.Sink.took g.met.S.Sink.more _ _ _ _ k.2 c.give_notice.ensures.quiet) c.in_ok-say.ensures.said),
         Goings-more _ _ k.0 _ _ c.in_ok-outcome.outcome k.3 c.in_ok-outcome.ensures.turn (sym c.ends-ends.ensures ∙ c.if-ends.false),
       );
-      unseen = g.met.S.Sink.further _ _ _ _ _ c.loop-turn.invariant.unseen (g.met.S.Sink.further _ _ _ _ _ c.show_relief.ensures.unseen c.say.ensures.unseen);
+      unseen = g.met.S.Sink.further _ _ _ _ _ c.loop-turn.invariant.unseen (g.met.S.Sink.further _ _ _ _ _ c.give_notice.ensures.unseen c.say.ensures.unseen);
     }
 
 pub returns-then-ends-clause-unseen : goal.returns-then-ends-clause-unseen
-returns-then-ends-clause-unseen g c = g.met.S.Sink.further _ _ _ _ _ c.loop-turn.invariant.unseen (g.met.S.Sink.further _ _ _ _ _ c.show_relief.ensures.unseen c.say.ensures.unseen)
+returns-then-ends-clause-unseen g c = g.met.S.Sink.further _ _ _ _ _ c.loop-turn.invariant.unseen (g.met.S.Sink.further _ _ _ _ _ c.give_notice.ensures.unseen c.say.ensures.unseen)
 
 pub returns-clause-unseen : goal.returns-clause-unseen
 returns-clause-unseen g c = g.met.S.Sink.further _ _ _ _ _ c.loop-turn.invariant.unseen c.answer.ensures.unseen
@@ -75,7 +75,7 @@ returns-in_err-outcome-clause-cut g c =
       answers = all_said c.args.actor k.0;
       begun = [];
       few = omega arith;
-      heard = record { mid = c.show_relief.new.sink; takes = took_none g.S.Sink.took g.met.S.Sink.more _ _ _ _ k.2 c.show_relief.ensures.quiet; fails = g.met.S.Sink.stays _ };
+      heard = record { mid = c.give_notice.new.sink; takes = took_none g.S.Sink.took g.met.S.Sink.more _ _ _ _ k.2 c.give_notice.ensures.quiet; fails = g.met.S.Sink.stays _ };
       starts = turns_start _ c.args.actor k.0 (lent_to (world c.loop-turn.self (g.D.BlockDevice.disk c.loop-turn.device)) c.args.actor c.loop-turn.lent) (g.D.BlockDevice.disk c.turn.new.device) (omega (arith, k.1, c.loop-turn-test.true)) k.3 (sym c.in_err-outcome.ensures.unmoved) c.history_is_right.ensures.right;
     })
 
@@ -86,7 +86,7 @@ returns-in_err-say-clause-cut g c =
       answers = all_said c.args.actor k.0;
       begun = said_at c.args.actor c.in_ok-outcome.outcome;
       few = said-few c.args.actor c.in_ok-outcome.outcome;
-      heard = record { mid = c.show_relief.new.sink; takes = took_none g.S.Sink.took g.met.S.Sink.more _ _ _ _ k.2 c.show_relief.ensures.quiet; fails = c.in_err-say.ensures.failed };
+      heard = record { mid = c.give_notice.new.sink; takes = took_none g.S.Sink.took g.met.S.Sink.more _ _ _ _ k.2 c.give_notice.ensures.quiet; fails = c.in_err-say.ensures.failed };
       starts = turn_starts _ c.args.actor k.0 (lent_to (world c.loop-turn.self (g.D.BlockDevice.disk c.loop-turn.device)) c.args.actor c.loop-turn.lent) c.in_ok-outcome.outcome (world c.turn.new.self (g.D.BlockDevice.disk c.turn.new.device)) (omega (arith, k.1, c.loop-turn-test.true)) k.3 c.in_ok-outcome.ensures.turn c.history_is_right-in-loop-turn.ensures.right;
     })
 

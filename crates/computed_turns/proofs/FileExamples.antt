@@ -47,8 +47,8 @@ use Rattle.turns.specs.declared.turn.Transition.TheVariants as transition
 use Rattle.turns.specs.declared.turn.Want.TheVariants as want
 use Rattle.turns.specs.Turns.{wants, Told, resumes_at, arrived, judged}
 use Rattle.driver.specs.Schedule.{World, Turn, outcome_of, left_of}
-use Rattle.driver.proofs.TurnExamples.{lists, order, caller, disk as no_disk, after}
-use Rattle.driver.proofs.TaskExamples.{r, tree}
+use Rattle.computed_turns.proofs.TurnExamples.{lists, order, caller, disk as no_disk, after}
+use Rattle.computed_turns.proofs.TaskExamples.{r, tree}
 
 -- ---- a read of a page that is not in memory
 

@@ -32,7 +32,7 @@ use Rattle.driver.specs.declared.seat.Activity.{Activity}
 use Rattle.driver.specs.declared.seat.Activity.TheVariants.{Rests, Begun}
 use Rattle.turns.specs.Turns.{judged}
 use Rattle.driver.specs.Schedule.{World, Turn}
-use Rattle.driver.proofs.TurnExamples.{lists, order, caller, disk, after}
+use Rattle.computed_turns.proofs.TurnExamples.{lists, order, caller, disk, after}
 
 abbrev task : ℕ → TaskId
 task n = record { 0 = n }

@@ -30,8 +30,8 @@ use Rattle.turns.specs.declared.turn.Transition.TheVariants as transition
 use Rattle.driver.specs.declared.seat.Activity.TheVariants.{Rests, Begun}
 use Rattle.turns.specs.Turns.{judged}
 use Rattle.driver.specs.Schedule.{Asks, Turn}
-use Rattle.driver.proofs.TurnExamples.{caller}
-use Rattle.driver.proofs.TaskExamples.{r, tree, world}
+use Rattle.computed_turns.proofs.TurnExamples.{caller}
+use Rattle.computed_turns.proofs.TaskExamples.{r, tree, world}
 
 -- two pages of a group's memory: one in a frame, and one on its block
 abbrev in_frame : ℕ → Page

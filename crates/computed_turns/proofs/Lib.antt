@@ -1,0 +1,4 @@
+pub mod TurnExamples
+pub mod TaskExamples
+pub mod RemovalExamples
+pub mod FileExamples
