@@ -1,2 +1,6 @@
-mod MarkLemmas
+mod FrameLemmas
 mod MergeLemmas
+mod StandingLemmas
+mod StepLemmas
+mod TogetherLemmas
+mod WalkLemmas

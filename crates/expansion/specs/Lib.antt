@@ -1,7 +1,6 @@
-pub mod Access
-pub mod Acts
-pub mod Amounts
-pub mod Marks
+pub mod Frames
 pub mod Merge
-pub mod Names
-pub mod Pages
+pub mod Standings
+pub mod ToCome
+pub mod Together
+pub mod Walk

@@ -1,5 +1,5 @@
 -- The order of the entries of lists that are worked together.
-use Rattle.std.specs.Prelude.{◌≡◌, ℕ, ◌+◌, ◌*◌, ◌<◌, Bool, true, false, List, length, Option, Some, None, nat_lt, slice_index_or}
+use Rattle.std.specs.Prelude.{◌≡◌, ℕ, suc, ◌+◌, ◌*◌, ◌<◌, Bool, true, false, not, ◌&&◌, List, [], ◌∷◌, length, Option, Some, None, nat_lt, slice_index_or, if◌then◌else◌}
 use Rattle.expansion.specs.declared.merge.Cursor.{Cursor}
 
 -- an entry is left
@@ -29,3 +29,15 @@ NextOf ms many (Some m) = IsFirstOf ms many m
 -- of all members
 abbrev pub IsNext : List Cursor → Option ℕ → Type 0
 IsNext ms next = NextOf ms (length ms) next
+
+-- ---- the member that comes next
+
+-- the first member comes next, unless the one that does of those below it, if there is one, is before it
+abbrev pub first_or : Cursor → List Cursor → Option ℕ → Option ℕ
+first_or c cs None = if has_next c then Some 0 else None
+first_or c cs (Some m) = if has_next c && not (is_before (member_at cs m) c) then Some 0 else Some (suc m)
+
+-- which one it is
+abbrev pub next_among : List Cursor → Option ℕ
+next_among [] = None
+next_among (c ∷ cs) = first_or c cs (next_among cs)

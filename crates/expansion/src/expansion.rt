@@ -1,19 +1,31 @@
 //! The entries that a scenario stands for, one after the other.
 
-use crate::burst::{Burst, Condition, Deed};
-use crate::fault::{Cause, ExpandError};
+ghost use Rattle.std.specs.Prelude.{◌≡◌, ◌<◌, ◌+◌, ◌||◌, true, not, [], ◌∷◌, ◌++◌, List, length, is_some, option_copied, option_map, None, Some, Ok, IfOk, OnOk, if◌then◌else◌};
+ghost use Rattle.scenario_words.specs.Faults.{Gives, GivesAlways, as_is};
+ghost use Rattle.scenario_lines.specs.LineLists.{line_lists};
+ghost use Rattle.expansion.specs.Frames.{FrameNow, repeated, named_round};
+ghost use Rattle.expansion.specs.Standings.{after_entry, after_rest};
+ghost use Rattle.expansion.specs.Together.{PlacedNow, TogetherNow, list_of};
+ghost use Rattle.expansion.specs.Walk.{Gathered, item_count, item_at, stands, placed_by, lists_gathered};
+ghost use Rattle.expansion.specs.ToCome.{told_last, told_of, waits, item_before, line_item, line_in, one_told, none_told, IsTurnOf, one_turn, repeats, gathering, round_ended, opened_in, with_repeat, with_together, one_gathered, added_in, lists_in, line_gathered, line_queued};
+
 use crate::frames::{Block, Frame};
-use crate::header::Header;
-use crate::lines::{bursts_of, check_together, may_be_refused};
-use crate::names::Names;
-use crate::program::{Form, Line, Program};
-use crate::scene::Scene;
-use crate::tasks::{Standing, copy_standings};
-use crate::together::{Placed, Together, Turn, leave_behind, leave_one};
-use crate::word::{Filled, ends_at, word_at};
+use crate::together::{Placed, Together, Turn, leave_behind, leave_one, leave_rest};
 use machine::command::{Actor, Command};
 use machine::text::Text;
+use scenario_lines::awaited::{Awaited, awaited_in};
+use scenario_lines::burst::{Burst, Condition, Deed};
+use scenario_lines::joined::joined;
+use scenario_lines::lines::{bursts_of, check_together, may_be_refused};
+use scenario_lines::scene::Scene;
+use scenario_lines::tasks::{Standing, copy_standings};
+use scenario_words::fault::{Cause, ExpandError};
+use scenario_words::header::Header;
+use scenario_words::names::Names;
+use scenario_words::word::{Filled, ends_at, word_at};
 use scenarios::holes::Named;
+use scenarios::lines::{Line, LineKind};
+use scenarios::scenario::Scenario;
 use std::alloc::{AllocError, Global};
 use std::collections::VecDeque;
 
@@ -26,6 +38,10 @@ pub enum Item {
     Raw(Text),
     /// A `show`, an `expect` or a `mark`, by its words.
     Note(Text),
+    /// A list with `until` begins, which the run cuts. Its first entry does not come if the run cuts it here.
+    Opened,
+    /// A list with `until`, of the line of this number, has ended without being cut by the run.
+    Unreached(usize),
 }
 
 /// How the lists with `until` are cut.
@@ -73,32 +89,36 @@ pub struct Expansion<'p> {
     open: Option<OpenList>,
     /// Notes that come next.
     notes: VecDeque<Placed>,
+    /// A list that the run cuts has begun, or has ended without a cut. That comes next.
+    opened: bool,
+    unreached: Option<usize>,
+    /// The words of the line at work.
+    words: Vec<Filled>,
+    /// The turn of the last item, if it is of lists that are worked together.
+    told_turn: Option<Turn>,
     /// The line and the rounds of the last item.
     told_line: usize,
     told_rounds: Vec<u32>,
 }
 
-fn copy_rounds(alloc: Global, rounds: &[u32]) -> Result<Vec<u32>, AllocError> {
-    let mut copy = Vec::new(alloc);
-    for round in rounds {
-        copy.push(*round)?;
-    }
-    Ok(copy)
+fn copy_rounds(alloc: Global, rounds: &[u32]) -> Result<Vec<u32>, AllocError>
+    ensures { IfOk result (λ copy. copy.items ≡ rounds.now) }
+{
+    Vec::from_slice(alloc, rounds)
 }
 
-/// The item of a list's entry, or the note that it is.
-fn item_of(alloc: Global, deed: &Deed, place: u32) -> Result<Option<Item>, AllocError> {
+/// The item of a place of a list: an entry, or the note that it is.
+fn item_of(alloc: Global, deed: &Deed, place: u32) -> Result<Item, AllocError>
+    requires { place < item_count deed.now }
+    ensures { IfOk result (λ item. item ≡ item_at deed.now place) }
+{
     match deed {
         Deed::Access(access) => {
-            if place < access.count() {
-                Ok(Some(Item::Entry(Actor::Task(access.task), access.command_at(place))))
-            } else {
-                Ok(None)
-            }
+            Ok(Item::Entry(Actor::Task(access.task), access.command_at(place)))
         }
-        Deed::Command(actor, command) => Ok(Some(Item::Entry(*actor, command.copy(alloc)?))),
-        Deed::Raw(words) => Ok(Some(Item::Raw(words.copy(alloc)?))),
-        Deed::Note(words) => Ok(Some(Item::Note(words.copy(alloc)?))),
+        Deed::Command(actor, command) => Ok(Item::Entry(*actor, command.copy(alloc)?)),
+        Deed::Raw(words) => Ok(Item::Raw(words.copy(alloc)?)),
+        Deed::Note(words) => Ok(Item::Note(words.copy(alloc)?)),
     }
 }
 
@@ -106,13 +126,13 @@ impl<'p> Expansion<'p> {
     /// The expansion of a scenario, with these words instead of those of its `let` lines. It reads the header.
     pub fn new(
         alloc: Global,
-        program: &'p Program,
+        scenario: &'p Scenario,
         settings: Vec<Named>,
         cuts: Cuts,
     ) -> Result<Expansion<'p>, ExpandError> {
         let mut scene = Scene::new(alloc, settings);
-        let begin = scene.read_header(program)?;
-        let lines = program.lines.as_slice();
+        let lines = scenario.lines.as_slice();
+        let begin = scene.read_header(lines)?;
         let frame = Frame::once(alloc, Block::All, begin, lines.len(), scene.values());
         let frames = vec![in alloc; frame]?;
         Ok(Expansion {
@@ -130,6 +150,10 @@ impl<'p> Expansion<'p> {
             together: None,
             open: None,
             notes: VecDeque::new(alloc),
+            opened: false,
+            unreached: None,
+            words: Vec::new(alloc),
+            told_turn: None,
             told_line: 0,
             told_rounds: Vec::new(alloc),
         })
@@ -148,13 +172,48 @@ impl<'p> Expansion<'p> {
     }
 
     /// The number of the line that the last item is of.
-    pub fn line(&self) -> usize {
+    pub fn line(&self) -> usize
+        ensures { result ≡ (told_last self.now).line }
+    {
         self.told_line
     }
 
     /// Its rounds, the outermost first.
-    pub fn rounds(&self) -> &[u32] {
+    pub fn rounds(&self) -> &[u32]
+        ensures { result.now ≡ (told_last self.now).rounds }
+    {
         self.told_rounds.as_slice()
+    }
+
+    /// The words of the scenario's line that the last item is of, with their quotes.
+    pub fn words(&self) -> Result<Text, AllocError>
+        ensures { IfOk result (λ words. words ≡ (told_last self.now).words) }
+    {
+        let alloc = self.scene.alloc;
+        if let (Some(together), Some(turn)) = (&self.together, self.told_turn) {
+            if let Some(placed) = together.placed(turn) {
+                return placed.words.copy(alloc);
+            }
+        }
+        Ok(Text::new(joined(alloc, self.words.as_slice(), 0, true)?))
+    }
+
+    /// The `expect refused` lines that are about the last item, the innermost first: each is right after the item's
+    /// line, or after a block that the item is in.
+    pub fn awaited(&self) -> Result<Vec<Awaited>, ExpandError> {
+        let mut found = Vec::new(self.scene.alloc);
+        let mut values = self.scene.values();
+        for frame in self.frames.iter().rev() {
+            if frame.at < frame.end {
+                if let Some(line) = self.lines.get(frame.at) {
+                    if let Some(awaited) = awaited_in(&self.scene, line, values)? {
+                        found.push(awaited)?;
+                    }
+                }
+            }
+            values = frame.scope;
+        }
+        Ok(found)
     }
 
     /// How many lengths there are that no list has taken.
@@ -167,6 +226,9 @@ impl<'p> Expansion<'p> {
 
     /// The condition of the list with `until` that is at work, if its names are there.
     pub fn condition(&self) -> Result<Option<Condition>, ExpandError> {
+        if self.open.is_none() {
+            return Ok(None);
+        }
         for frame in &self.frames {
             if let Some(place) = frame.until {
                 let words = frame.words.as_slice();
@@ -203,7 +265,9 @@ impl<'p> Expansion<'p> {
     }
 
     /// The length of the next list with `until`, if one is given.
-    fn next_length(&mut self) -> Option<u64> {
+    fn next_length(&mut self) -> Option<u64>
+        ensures { self.new.frames ≡ self.old.frames }
+    {
         match &self.cuts {
             Cuts::ByRun => None,
             Cuts::Given(lengths) => {
@@ -215,13 +279,16 @@ impl<'p> Expansion<'p> {
     }
 
     /// A list with `until` begins.
-    fn open_list(&mut self) {
+    fn open_list(&mut self)
+        ensures { self.new.frames ≡ self.old.frames }
+    {
         let alloc = self.scene.alloc;
         let left = if self.scene.loose {
             None
         } else {
             self.next_length()
         };
+        self.opened = !self.ends_openly();
         self.open = Some(OpenList {
             left,
             cut: false,
@@ -230,8 +297,8 @@ impl<'p> Expansion<'p> {
         });
     }
 
-    /// A list with `until` ends.
-    fn close_list(&mut self) -> Result<(), ExpandError> {
+    /// A list with `until` ends. It is of the line with this number.
+    fn close_list(&mut self, line: usize) -> Result<(), ExpandError> {
         let Some(open) = self.open.take() else {
             return Ok(());
         };
@@ -248,8 +315,12 @@ impl<'p> Expansion<'p> {
         for note in notes {
             self.notes.push_back(note)?;
         }
-        if left.is_none() && self.ends_openly() {
-            self.scene.loose = true;
+        if left.is_none() {
+            if self.ends_openly() {
+                self.scene.loose = true;
+            } else {
+                self.unreached = Some(line);
+            }
         }
         Ok(())
     }
@@ -281,7 +352,10 @@ impl<'p> Expansion<'p> {
     }
 
     /// Whether an entry comes, or was cut away.
-    fn admit_entry(&mut self) -> Result<bool, ExpandError> {
+    fn admit_entry(&mut self) -> Result<bool, ExpandError>
+        ensures comes { self.old.open ≡ None → GivesAlways as_is result (not self.old.scene.loose) }
+        ensures same { self.old.open ≡ None → OnOk result (self.new ≡ self.old) }
+    {
         if self.scene.loose {
             return Ok(false);
         }
@@ -316,11 +390,13 @@ impl<'p> Expansion<'p> {
     }
 
     /// Whether a note comes now, was cut away, or waits for whether another entry comes.
-    fn admit_note(&mut self, words: &Text) -> Result<bool, ExpandError> {
+    fn admit_note(&mut self, words: &Text) -> Result<bool, ExpandError>
+        ensures comes { self.old.open ≡ None → GivesAlways as_is result (not self.old.scene.loose) }
+        ensures same { self.old.open ≡ None → OnOk result (self.new ≡ self.old) }
+    {
         if self.scene.loose {
             return Ok(false);
         }
-        let alloc = self.scene.alloc;
         let waits = match &self.open {
             None => return Ok(true),
             Some(open) => {
@@ -331,20 +407,40 @@ impl<'p> Expansion<'p> {
             }
         };
         if waits {
-            let placed = Placed {
-                line: self.line,
-                rounds: copy_rounds(alloc, self.rounds.as_slice())?,
-                deed: Deed::Note(words.copy(alloc)?),
-            };
-            if let Some(open) = &mut self.open {
-                open.notes.push(placed)?;
-            }
+            self.keep_note(words)?;
         }
         Ok(!waits)
     }
 
+    /// Keeps a note until it is known whether another entry of the list at work comes.
+    fn keep_note(&mut self, words: &Text) -> Result<(), AllocError> {
+        let placed = self.placed_note(words)?;
+        if let Some(open) = &mut self.open {
+            open.notes.push(placed)?;
+        }
+        Ok(())
+    }
+
+    /// A note of the line at work.
+    fn placed_note(&self, words: &Text) -> Result<Placed, AllocError> {
+        let alloc = self.scene.alloc;
+        let rounds = copy_rounds(alloc, self.rounds.as_slice())?;
+        let printed = words.copy(alloc)?;
+        let words = words.copy(alloc)?;
+        Ok(Placed {
+            line: self.line,
+            rounds,
+            deed: Deed::Note(printed),
+            words,
+        })
+    }
+
     /// The item comes from the line at work.
-    fn tell(&mut self) -> Result<(), AllocError> {
+    fn tell(&mut self) -> Result<(), AllocError>
+        ensures told { OnOk result (self.new ≡ record self.old { told_turn = None; told_line = self.old.line; told_rounds = self.new.told_rounds }) }
+        ensures rounds { OnOk result (self.new.told_rounds.items ≡ self.old.rounds.items) }
+    {
+        self.told_turn = None;
         self.told_line = self.line;
         if self.told_rounds.as_slice() != self.rounds.as_slice() {
             self.told_rounds = copy_rounds(self.scene.alloc, self.rounds.as_slice())?;
@@ -363,8 +459,41 @@ enum Stepped {
     Ended,
 }
 
+/// The line of a place, before the end of a block.
+fn line_in(lines: &[Line], at: usize, end: usize) -> Option<&Line>
+    ensures { option_copied result ≡ line_in lines.now at end }
+{
+    if at < end { lines.get(at) } else { None }
+}
+
+/// The item of a place of a list, if there is one.
+fn next_item(alloc: Global, deed: &Deed, place: u32) -> Result<Option<Item>, AllocError>
+    ensures { IfOk result (λ item. item ≡ item_before deed.now place) }
+{
+    if place < items_of(deed) {
+        Ok(Some(item_of(alloc, deed, place)?))
+    } else {
+        Ok(None)
+    }
+}
+
+/// The next turn of lists that are worked together, with its entry.
+fn turn_of(alloc: Global, together: &Together) -> Result<Option<(Turn, Item)>, AllocError>
+    ensures { IfOk result (IsTurnOf together.now.members) }
+{
+    let Some(turn) = together.next() else {
+        return Ok(None);
+    };
+    let Some(placed) = together.placed(turn) else {
+        return Ok(None);
+    };
+    Ok(Some((turn, item_of(alloc, &placed.deed, turn.place)?)))
+}
+
 /// How many items a list has: its entries, or one note.
-fn items_of(deed: &Deed) -> u32 {
+fn items_of(deed: &Deed) -> u32
+    ensures { result ≡ item_count deed.now }
+{
     match deed {
         Deed::Access(access) => access.count(),
         Deed::Command(_, _) | Deed::Raw(_) | Deed::Note(_) => 1,
@@ -381,35 +510,71 @@ impl<'p> Expansion<'p> {
                 Stepped::Ended => return Ok(None),
             }
         }
-        Ok(None)
+        // So many steps take centuries. The end has not come.
+        Err(ExpandError::Memory)
     }
 
     fn step(&mut self) -> Result<Stepped, ExpandError> {
-        if let Some(note) = self.notes.pop_front() {
-            return Ok(self.tell_note(note));
+        if self.waits() {
+            return Ok(self.tell_waiting());
         }
         if self.together.is_some() {
             return self.step_together();
         }
-        if let Some(burst) = self.current.take() {
-            return self.step_line(burst);
+        if self.current.is_some() {
+            return self.step_line();
         }
-        match self.queue.pop_front() {
-            None => self.advance(),
-            Some(burst) => {
-                if burst.until.is_some() {
-                    self.open_list();
-                }
-                self.current = Some(burst);
-                self.taken = 0;
-                Ok(Stepped::Nothing)
+        if self.queue.is_empty() {
+            return self.advance();
+        }
+        self.begin_list();
+        Ok(Stepped::Nothing)
+    }
+
+    /// Whether something waits to be told.
+    fn waits(&self) -> bool
+        ensures { result ≡ waits self.now }
+    {
+        !self.notes.is_empty() || self.opened || self.unreached.is_some()
+    }
+
+    /// What waits comes.
+    fn tell_waiting(&mut self) -> Stepped {
+        if let Some(note) = self.notes.pop_front() {
+            return self.tell_note(note);
+        }
+        if self.opened {
+            self.opened = false;
+            return Stepped::Item(Item::Opened);
+        }
+        match self.unreached.take() {
+            Some(line) => Stepped::Item(Item::Unreached(line)),
+            None => Stepped::Nothing,
+        }
+    }
+
+    /// The next list of the line is at work.
+    fn begin_list(&mut self)
+        ensures { (b : Burst) (bs : List Burst) → self.old.queue.items ≡ b ∷ bs → b.until ≡ None → (self.new.queue.items ≡ bs) × (self.new ≡ record self.old { queue = self.new.queue; current = Some b; taken = 0 }) }
+    {
+        if let Some(burst) = self.queue.pop_front() {
+            if burst.until.is_some() {
+                self.open_list();
             }
+            self.current = Some(burst);
+            self.taken = 0;
         }
     }
 
     /// A note that waited comes.
     fn tell_note(&mut self, note: Placed) -> Stepped {
-        let Placed { line, rounds, deed } = note;
+        let Placed {
+            line,
+            rounds,
+            deed,
+            ..
+        } = note;
+        self.told_turn = None;
         self.told_line = line;
         self.told_rounds = rounds;
         match deed {
@@ -419,66 +584,126 @@ impl<'p> Expansion<'p> {
     }
 
     /// Whether an item comes. An entry changes the tasks' marks and places, also if it was cut away.
-    fn admit(&mut self, item: &Item, deed: &Deed, place: u32) -> Result<bool, ExpandError> {
+    fn admit(&mut self, item: &Item, place: u32) -> Result<bool, ExpandError>
+        ensures comes { (b : Burst) → self.old.open ≡ None → self.old.current ≡ Some b → item.now ≡ item_at b.deed place → GivesAlways as_is result (not self.old.scene.loose) }
+        ensures leaves { (b : Burst) → self.old.open ≡ None → self.old.current ≡ Some b → item.now ≡ item_at b.deed place → OnOk result (self.new ≡ record self.old { scene = stands self.old.scene (after_entry b.deed place self.old.scene.tasks.standings) }) }
+    {
         match item {
             Item::Note(words) => self.admit_note(words),
+            Item::Opened | Item::Unreached(_) => Ok(true),
             Item::Entry(_, _) | Item::Raw(_) => {
                 let comes = self.admit_entry()?;
-                leave_one(&mut self.scene.tasks, deed, place)?;
+                if let Some(burst) = &self.current {
+                    leave_one(&mut self.scene.tasks, &burst.deed, place)?;
+                }
                 Ok(comes)
             }
         }
     }
 
-    /// The next item of the line at work.
-    fn step_line(&mut self, burst: Burst) -> Result<Stepped, ExpandError> {
-        let place = self.taken;
-        let item = if place < items_of(&burst.deed) {
-            item_of(self.scene.alloc, &burst.deed, place)?
-        } else {
-            None
-        };
-        let Some(item) = item else {
-            if burst.until.is_some() {
-                self.close_list()?;
-            }
-            return Ok(Stepped::Nothing);
-        };
-        let comes = self.admit(&item, &burst.deed, place)?;
-        self.taken = place.saturating_add(1);
-        self.current = Some(burst);
-        if !comes {
-            return Ok(Stepped::Nothing);
+    /// The next item of the line at work, if there is one.
+    fn item_of_line(&self) -> Result<Option<Item>, AllocError>
+        ensures { IfOk result (λ item. item ≡ line_item self.now.current self.now.taken) }
+    {
+        match &self.current {
+            None => Ok(None),
+            Some(burst) => next_item(self.scene.alloc, &burst.deed, self.taken),
         }
-        self.tell()?;
-        Ok(Stepped::Item(item))
+    }
+
+    /// The line at work has no item left.
+    fn end_line(&mut self) -> Result<(), ExpandError>
+        ensures { (b : Burst) → self.old.current ≡ Some b → b.until ≡ None → GivesAlways (λ _. self.new) result (record self.old { current = None }) }
+    {
+        let Some(burst) = self.current.take() else {
+            return Ok(());
+        };
+        if burst.until.is_some() {
+            self.close_list(self.line)?;
+        }
+        Ok(())
+    }
+
+    /// The next item of the line at work.
+    fn step_line(&mut self) -> Result<Stepped, ExpandError> {
+        let Some(item) = self.item_of_line()? else {
+            self.end_line()?;
+            return Ok(Stepped::Nothing);
+        };
+        if self.take_item(&item)? {
+            Ok(Stepped::Item(item))
+        } else {
+            Ok(Stepped::Nothing)
+        }
+    }
+
+    /// Takes the next item of the line at work. Whether it comes, or was cut away.
+    fn take_item(&mut self, item: &Item) -> Result<bool, ExpandError>
+        ensures comes { (b : Burst) → self.old.open ≡ None → self.old.current ≡ Some b → item.now ≡ item_at b.deed self.old.taken → GivesAlways as_is result (not self.old.scene.loose) }
+        ensures taken { (b : Burst) → self.old.open ≡ None → self.old.current ≡ Some b → item.now ≡ item_at b.deed self.old.taken → IfOk result (λ comes. self.new ≡ (if comes then one_told b self.new.told_rounds self.old else none_told b self.old)) }
+        ensures rounds { (b : Burst) → self.old.open ≡ None → self.old.current ≡ Some b → item.now ≡ item_at b.deed self.old.taken → IfOk result (λ comes. comes ≡ true → self.new.told_rounds.items ≡ self.old.rounds.items) }
+    {
+        let place = self.taken;
+        let comes = self.admit(item, place)?;
+        self.taken = place.saturating_add(1);
+        if comes {
+            self.tell()?;
+        } else {
+            // If one entry of a list doesn't come, no later one does.
+            self.leave_line()?;
+        }
+        Ok(comes)
+    }
+
+    /// The items that are left of the line at work don't come.
+    fn leave_line(&mut self) -> Result<(), AllocError>
+        ensures { (b : Burst) → self.old.current ≡ Some b → OnOk result (self.new ≡ record self.old { taken = item_count b.deed; scene = stands self.old.scene (after_rest b.deed self.old.taken self.old.scene.tasks.standings) }) }
+    {
+        let Some(burst) = &self.current else {
+            return Ok(());
+        };
+        leave_rest(&mut self.scene.tasks, &burst.deed, self.taken)?;
+        self.taken = items_of(&burst.deed);
+        Ok(())
+    }
+
+    /// Leaves out the items that are left of the line at work, or of the lists that are worked together. The tasks'
+    /// marks and places are as after the last of them. A list that a given length cuts is not shortened.
+    pub fn pass_over(&mut self) -> Result<(), AllocError> {
+        if let Some(open) = &self.open {
+            if open.left.is_some() {
+                return Ok(());
+            }
+        }
+        if self.together.is_some() {
+            self.together = None;
+            return Ok(());
+        }
+        self.leave_line()
     }
 
     /// The next turn of the lists that are worked together, with its entry.
-    fn together_turn(&self) -> Result<Option<(Turn, Item)>, ExpandError> {
-        let Some(together) = &self.together else {
-            return Ok(None);
-        };
-        let Some(turn) = together.next() else {
-            return Ok(None);
-        };
-        let Some(placed) = together.placed(turn) else {
-            return Ok(None);
-        };
-        match item_of(self.scene.alloc, &placed.deed, turn.place)? {
+    fn together_turn(&self) -> Result<Option<(Turn, Item)>, AllocError>
+        ensures { (t : TogetherNow) → self.now.together ≡ Some t → IfOk result (IsTurnOf t.members) }
+    {
+        match &self.together {
             None => Ok(None),
-            Some(item) => Ok(Some((turn, item))),
+            Some(together) => turn_of(self.scene.alloc, together),
         }
     }
 
     /// The item comes from the list of this turn.
-    fn tell_turn(&mut self, turn: Turn) -> Result<(), AllocError> {
+    fn tell_turn(&mut self, turn: Turn) -> Result<(), AllocError>
+        ensures told { OnOk result (self.new ≡ record self.old { told_turn = self.new.told_turn; told_line = self.new.told_line; told_rounds = self.new.told_rounds }) }
+        ensures list { (t : TogetherNow) (p : PlacedNow) → self.old.together ≡ Some t → list_of t.members turn ≡ Some p → OnOk result ((self.new.told_turn ≡ Some turn) × (self.new.told_line ≡ p.line) × (self.new.told_rounds.items ≡ p.rounds)) }
+    {
         let Some(together) = &self.together else {
             return Ok(());
         };
         let Some(placed) = together.placed(turn) else {
             return Ok(());
         };
+        self.told_turn = Some(turn);
         self.told_line = placed.line;
         if self.told_rounds.as_slice() != placed.rounds.as_slice() {
             self.told_rounds = copy_rounds(self.scene.alloc, placed.rounds.as_slice())?;
@@ -491,6 +716,19 @@ impl<'p> Expansion<'p> {
             self.together = None;
             return Ok(Stepped::Nothing);
         };
+        if self.take_turn(turn)? {
+            Ok(Stepped::Item(item))
+        } else {
+            Ok(Stepped::Nothing)
+        }
+    }
+
+    /// Takes the entry of a turn. Whether it comes, or was cut away.
+    fn take_turn(&mut self, turn: Turn) -> Result<bool, ExpandError>
+        ensures comes { self.old.open ≡ None → GivesAlways as_is result (not self.old.scene.loose) }
+        ensures taken { (t : TogetherNow) (p : PlacedNow) → self.old.open ≡ None → self.old.together ≡ Some t → OnOk result (self.new ≡ record self.old { together = one_turn t turn.member; told_turn = self.new.told_turn; told_line = self.new.told_line; told_rounds = self.new.told_rounds }) }
+        ensures told { (t : TogetherNow) (p : PlacedNow) → self.old.open ≡ None → self.old.together ≡ Some t → list_of t.members turn ≡ Some p → IfOk result (λ comes. comes ≡ true → (self.new.told_turn ≡ Some turn) × (self.new.told_line ≡ p.line) × (self.new.told_rounds.items ≡ p.rounds)) }
+    {
         let comes = self.admit_entry()?;
         if comes {
             self.tell_turn(turn)?;
@@ -498,62 +736,81 @@ impl<'p> Expansion<'p> {
         if let Some(together) = &mut self.together {
             together.take(turn.member);
         }
-        if comes {
-            Ok(Stepped::Item(item))
-        } else {
-            Ok(Stepped::Nothing)
-        }
+        Ok(comes)
     }
 
     /// The next line, the next round, or the end of a block.
     fn advance(&mut self) -> Result<Stepped, ExpandError> {
-        let Some(mut frame) = self.frames.pop() else {
+        let Some(frame) = self.frames.pop() else {
             return Ok(Stepped::Ended);
         };
-        if frame.at >= frame.end {
-            self.end_round(frame)?;
-            return Ok(Stepped::Nothing);
-        }
-        let place = frame.at;
-        let above = frame.above;
-        let lines = self.lines;
-        let Some(line) = lines.get(place) else {
-            return Ok(Stepped::Ended);
-        };
-        self.line = line.number;
-        let words = self.scene.words_of(line)?;
-        frame.at = place.saturating_add(1).saturating_add(line.inside);
-        frame.above = line.form != Form::Plain || may_be_refused(words.as_slice());
-        let behind = frame.at;
-        self.frames.push(frame)?;
-        match line.form {
-            Form::Plain => self.work_line(words.as_slice(), above)?,
-            Form::Repeat => self.open_repeat(words, place.saturating_add(1), behind)?,
-            Form::Together => self.open_together(
-                words.as_slice(),
-                place.saturating_add(1),
-                behind,
-            )?,
+        match line_in(self.lines, frame.at, frame.end) {
+            None => self.end_round(frame)?,
+            Some(line) => self.open_line(frame, line)?,
         }
         Ok(Stepped::Nothing)
     }
 
+    /// The next line of a block, which was the innermost one.
+    fn open_line(&mut self, frame: Frame, line: &Line) -> Result<(), ExpandError> {
+        let mut frame = frame;
+        let begin = frame.at.saturating_add(1);
+        let behind = begin.saturating_add(line.inside()).min(frame.end);
+        let above = frame.above;
+        let words = self.scene.words_of(line)?;
+        frame.at = behind;
+        frame.above = line.kind().opens_block() || may_be_refused(words.as_slice());
+        self.frames.push(frame)?;
+        self.line = line.number();
+        match line.kind() {
+            LineKind::Repeat => self.open_repeat(words, begin, behind),
+            LineKind::Together => self.open_together(words.as_slice(), begin, behind),
+            LineKind::Header | LineKind::Let | LineKind::End | LineKind::Other => {
+                self.work_line(words, above)
+            }
+        }
+    }
+
     /// What a line stands for comes next, or is one more member of what is worked together.
-    fn work_line(&mut self, words: &[Filled], above: bool) -> Result<(), ExpandError> {
+    fn work_line(&mut self, words: Vec<Filled>, above: bool) -> Result<(), ExpandError>
+        ensures lists { self.old.gathered ≡ None → Gives (λ _. (self.new.queue.items, self.new.scene)) result (line_queued self.old.scene words.items above) }
+        ensures queued { self.old.gathered ≡ None → OnOk result (self.new ≡ record self.old { queue = self.new.queue; scene = self.new.scene; words = words }) }
+        ensures members { (g : Gathered) → gathering self.old ≡ Some g → Gives (λ _. gathering self.new) result (line_gathered (told_of self.old.line self.old.rounds.items words.items) (repeats self.old.frames.items) words.items above g) }
+        ensures others { (g : Gathered) → gathering self.old ≡ Some g → OnOk result (self.new ≡ record self.old { gathered = self.new.gathered; scene = self.new.scene; words = words }) }
+    {
         if self.gathered.is_some() {
-            check_together(words)?;
+            self.gather_line(words.as_slice(), above)?;
+        } else {
+            self.queue_line(words.as_slice(), above)?;
         }
-        let bursts = bursts_of(&mut self.scene, words, above)?;
-        if self.gathered.is_some() {
-            return self.gather(bursts);
-        }
-        for burst in bursts {
-            self.queue.push_back(burst)?;
-        }
+        self.scene.note_sizes(words.as_slice())?;
+        self.words = words;
         Ok(())
     }
 
-    fn in_repeat(&self) -> bool {
+    /// What a line stands for comes next.
+    fn queue_line(&mut self, words: &[Filled], above: bool) -> Result<(), ExpandError>
+        ensures lists { Gives (λ _. (self.new.queue.items, self.new.scene)) result (line_lists self.old.scene words.now above) }
+        ensures others { OnOk result (self.new ≡ record self.old { queue = self.new.queue; scene = self.new.scene }) }
+    {
+        let bursts = bursts_of(&mut self.scene, words, above)?;
+        self.queue = VecDeque::from_vec(bursts);
+        Ok(())
+    }
+
+    /// What a line stands for is one more member, or more, of what is worked together.
+    fn gather_line(&mut self, words: &[Filled], above: bool) -> Result<(), ExpandError>
+        ensures members { (g : Gathered) → gathering self.old ≡ Some g → Gives (λ _. gathering self.new) result (lists_in (told_of self.old.line self.old.rounds.items words.now) (repeats self.old.frames.items) words.now above g) }
+        ensures others { OnOk result (self.new ≡ record self.old { scene = self.new.scene; gathered = self.new.gathered }) }
+    {
+        check_together(words)?;
+        let bursts = bursts_of(&mut self.scene, words, above)?;
+        Ok(self.gather(bursts, words)?)
+    }
+
+    fn in_repeat(&self) -> bool
+        ensures { result ≡ repeats self.now.frames.items }
+    {
         match self.frames.last() {
             None => false,
             Some(frame) => frame.block == Block::Repeat,
@@ -561,29 +818,61 @@ impl<'p> Expansion<'p> {
     }
 
     /// Each list is a member, except the lists in a `repeat`: they form one member.
-    fn gather(&mut self, bursts: Vec<Burst>) -> Result<(), ExpandError> {
-        let alone = !self.in_repeat();
+    fn gather(&mut self, bursts: Vec<Burst>, words: &[Filled]) -> Result<(), AllocError>
+        ensures members { IfOk result (λ _. gathering self.new ≡ option_map (lists_gathered (told_of self.old.line self.old.rounds.items words.now) (repeats self.old.frames.items) bursts.items) (gathering self.old)) }
+        ensures others { OnOk result (self.new ≡ record self.old { scene = self.new.scene; gathered = self.new.gathered }) }
+    {
+        let in_repeat = self.in_repeat();
         for burst in bursts {
-            self.gather_one(burst, alone)?;
+            self.gather_one(burst, words, in_repeat)?;
         }
         Ok(())
     }
 
-    fn gather_one(&mut self, burst: Burst, alone: bool) -> Result<(), ExpandError> {
-        let alloc = self.scene.alloc;
-        let many = burst.count();
+    fn gather_one(
+        &mut self,
+        burst: Burst,
+        words: &[Filled],
+        in_repeat: bool,
+    ) -> Result<(), AllocError>
+        ensures members { OnOk result (gathering self.new ≡ option_map (one_gathered (told_of self.old.line self.old.rounds.items words.now) in_repeat burst) (gathering self.old)) }
+        ensures others { OnOk result (self.new ≡ record self.old { scene = self.new.scene; gathered = self.new.gathered }) }
+    {
+        leave_behind(&mut self.scene.tasks, &burst.deed, burst.count())?;
         let Burst { deed, .. } = burst;
-        leave_behind(&mut self.scene.tasks, &deed, many)?;
+        let placed = self.placed(deed, words)?;
+        self.add_gathered(placed, in_repeat)
+    }
+
+    /// What a line stands for, with the line at work, its rounds and its words.
+    fn placed(&self, deed: Deed, words: &[Filled]) -> Result<Placed, AllocError>
+        ensures { IfOk result (λ placed. placed ≡ placed_by (told_of self.now.line self.now.rounds.items words.now) deed) }
+    {
+        let alloc = self.scene.alloc;
+        let words = Text::new(joined(alloc, words, 0, true)?);
         let rounds = copy_rounds(alloc, self.rounds.as_slice())?;
-        let line = self.line;
-        let Some(gathered) = &mut self.gathered else {
-            return Ok(());
-        };
-        if alone {
-            gathered.add_member(alloc)?;
+        Ok(Placed {
+            line: self.line,
+            rounds,
+            deed,
+            words,
+        })
+    }
+
+    /// Adds a list to the last member, or to a new one if it is in no `repeat`.
+    fn add_gathered(&mut self, placed: Placed, in_repeat: bool) -> Result<(), AllocError>
+        ensures { OnOk result (self.new ≡ record self.old { gathered = added_in in_repeat placed self.old.gathered }) }
+    {
+        let alloc = self.scene.alloc;
+        match &mut self.gathered {
+            None => Ok(()),
+            Some(gathered) => {
+                if !in_repeat {
+                    gathered.add_member(alloc)?;
+                }
+                gathered.add(placed)
+            }
         }
-        gathered.add(Placed { line, rounds, deed })?;
-        Ok(())
     }
 
     fn open_repeat(
@@ -591,22 +880,51 @@ impl<'p> Expansion<'p> {
         words: Vec<Filled>,
         begin: usize,
         end: usize,
-    ) -> Result<(), ExpandError> {
-        let alloc = self.scene.alloc;
-        let no_until = self.gathered.is_some() || self.scene.in_until;
+    ) -> Result<(), ExpandError>
+        ensures frames { Gives (λ _. self.new.frames.items) result (with_repeat self.old words.items begin end) }
+        ensures others { (f : FrameNow) → repeated self.old.scene words.items begin end (is_some self.old.gathered || self.old.scene.in_until) ≡ Ok f → f.until ≡ None → OnOk result (self.new ≡ record self.old { frames = self.new.frames; gathered = opened_in (repeats self.old.frames.items) self.old.gathered }) }
+    {
+        let no_until = self.has_no_until();
         let frame = Frame::repeated(&self.scene, words, begin, end, no_until)?;
-        let in_repeat = self.in_repeat();
-        if let Some(gathered) = &mut self.gathered {
-            if !in_repeat {
-                gathered.add_member(alloc)?;
-            }
-        }
+        self.open_member()?;
         if frame.until.is_some() {
-            self.open_list();
-            self.scene.in_until = true;
+            self.open_until();
         }
         self.frames.push(frame)?;
         Ok(())
+    }
+
+    /// Whether `until` is a fault here.
+    fn has_no_until(&self) -> bool
+        ensures { result ≡ (is_some self.now.gathered || self.now.scene.in_until) }
+    {
+        self.gathered.is_some() || self.scene.in_until
+    }
+
+    /// A `repeat` is a member, if it is in no other.
+    fn open_member(&mut self) -> Result<(), AllocError>
+        ensures { OnOk result (self.new ≡ record self.old { gathered = opened_in (repeats self.old.frames.items) self.old.gathered }) }
+    {
+        let alloc = self.scene.alloc;
+        let in_repeat = self.in_repeat();
+        match &mut self.gathered {
+            None => Ok(()),
+            Some(gathered) => {
+                if in_repeat {
+                    Ok(())
+                } else {
+                    gathered.add_member(alloc)
+                }
+            }
+        }
+    }
+
+    /// A `repeat` with `until` begins.
+    fn open_until(&mut self)
+        ensures { self.new.frames ≡ self.old.frames }
+    {
+        self.open_list();
+        self.scene.in_until = true;
     }
 
     fn open_together(
@@ -614,7 +932,10 @@ impl<'p> Expansion<'p> {
         words: &[Filled],
         begin: usize,
         end: usize,
-    ) -> Result<(), ExpandError> {
+    ) -> Result<(), ExpandError>
+        ensures frames { Gives (λ _. self.new.frames.items) result (with_together self.old words.now begin end) }
+        ensures others { self.old.open ≡ None → OnOk result (self.new ≡ record self.old { frames = self.new.frames; gathered = Some (record { members = []; before = None }) }) }
+    {
         let alloc = self.scene.alloc;
         if self.gathered.is_some() {
             return Err(word_at(words, 0)?.fault(Cause::Together));
@@ -644,24 +965,44 @@ impl<'p> Expansion<'p> {
         }
     }
 
-    fn end_repeated(&mut self, frame: Frame) -> Result<(), ExpandError> {
+    fn end_repeated(&mut self, frame: Frame) -> Result<(), ExpandError>
+        ensures ends { frame.until ≡ None → GivesAlways as_is result tt }
+        ensures scene { frame.until ≡ None → OnOk result (self.new.scene ≡ (round_ended frame self.old.scene self.old.rounds.items self.old.frames.items).0) }
+        ensures rounds { frame.until ≡ None → OnOk result (self.new.rounds.items ≡ (round_ended frame self.old.scene self.old.rounds.items self.old.frames.items).1) }
+        ensures frames { frame.until ≡ None → OnOk result (self.new.frames.items ≡ (round_ended frame self.old.scene self.old.rounds.items self.old.frames.items).2) }
+        ensures others { frame.until ≡ None → OnOk result (self.new ≡ record self.old { scene = self.new.scene; rounds = self.new.rounds; frames = self.new.frames }) }
+    {
         let mut frame = frame;
         if frame.round > 0 {
             self.scene.keep_values(frame.scope);
             let _round = self.rounds.pop();
         }
         if frame.next_round() {
-            frame.name_round(&mut self.scene)?;
-            self.rounds.push(frame.round)?;
-            self.frames.push(frame)?;
-            return Ok(());
+            return Ok(self.begin_round(frame)?);
         }
-        if let Some(place) = frame.until {
-            self.scene.in_until = false;
-            self.scene
-                .condition(frame.words.as_slice(), place.saturating_add(1), None)?;
-            self.close_list()?;
+        match frame.until {
+            None => Ok(()),
+            Some(place) => self.end_until(frame.words.as_slice(), place.saturating_add(1)),
         }
+    }
+
+    fn begin_round(&mut self, frame: Frame) -> Result<(), AllocError>
+        ensures scene { OnOk result (self.new.scene ≡ named_round frame.name frame.values frame.round self.old.scene) }
+        ensures rounds { OnOk result (self.new.rounds.items ≡ self.old.rounds.items ++ frame.round ∷ []) }
+        ensures frames { OnOk result (self.new.frames.items ≡ self.old.frames.items ++ frame ∷ []) }
+        ensures others { OnOk result (self.new ≡ record self.old { scene = self.new.scene; rounds = self.new.rounds; frames = self.new.frames }) }
+    {
+        frame.name_round(&mut self.scene)?;
+        self.rounds.push(frame.round)?;
+        self.frames.push(frame)?;
         Ok(())
+    }
+
+    /// The list of a `repeat` with `until` ends. Its condition begins at this place of these words.
+    fn end_until(&mut self, words: &[Filled], place: usize) -> Result<(), ExpandError> {
+        self.scene.in_until = false;
+        self.scene.condition(words, place, None)?;
+        self.scene.note_condition(words, place)?;
+        self.close_list(word_at(words, 0)?.line)
     }
 }

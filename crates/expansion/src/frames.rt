@@ -1,16 +1,16 @@
 //! The blocks that are at work.
 
-ghost use Rattle.std.specs.Prelude.{◌≡◌, ◌+◌, nat_lt, if◌then◌else◌};
-ghost use Rattle.std.specs.Bool.{OnTrue};
+ghost use Rattle.std.specs.Prelude.{◌≡◌, ◌<◌, ◌≤◌, length, map, IfOk, IfSome, OnOk, if◌then◌else◌};
+ghost use Rattle.std.specs.String.{string_bytes};
+ghost use Rattle.scenario_words.specs.Faults.{Gives, as_is};
+ghost use Rattle.expansion.specs.Frames.{until_at, first_until, sources, head_of_words, head_named, head_unnamed, head_of_number, head_of, until_form, once, repeated, named_round, more_rounds, in_next_round};
 
-use crate::amount::number_within;
-use crate::fault::{Cause, ExpandError};
-use crate::scene::{Scene, checked_name};
-use crate::word::{Filled, ends_at, is_at, word_at};
-use std::alloc::Global;
-
-/// Rounds that a `repeat` has, at most.
-const MOST_ROUNDS: u64 = 1_000_000;
+use scenario_lines::scene::{Scene, checked_name};
+use scenario_words::amount::number_within;
+use scenario_words::fault::{Cause, ExpandError};
+use scenario_words::word::{Filled, ends_at, is_at, word_at};
+use std::alloc::{AllocError, Global};
+use std::marker::Model;
 
 /// What a block does with its lines.
 #[derive(Clone, Copy, Debug, PartialEq, Eq)]
@@ -46,6 +46,16 @@ pub struct Frame {
     pub words: Vec<Filled>,
 }
 
+impl Model for Frame {
+    ghost use Rattle.std.specs.Prelude.{map, option_map};
+    ghost use Rattle.std.specs.String.{string_bytes};
+    ghost use Rattle.expansion.specs.Frames.{FrameNow};
+
+    ghost Value = { FrameNow };
+
+    ghost view = { λ f. record { block = f.block; begin = f.begin; at = f.at; end = f.end; round = f.round; rounds = f.rounds; name = option_map (λ n. string_bytes n) f.name; values = map (λ v. string_bytes v) f.values.items; scope = f.scope; above = f.above; until = f.until; words = f.words.items } };
+}
+
 /// What the head of a `repeat` says.
 #[derive(Drop)]
 struct Head {
@@ -55,12 +65,21 @@ struct Head {
     until: Option<usize>,
 }
 
-fn copy_of(alloc: Global, text: &str) -> Result<String, ExpandError> {
-    Ok(String::from_str(alloc, text)?)
+impl Model for Head {
+    ghost use Rattle.std.specs.Prelude.{map, option_map};
+    ghost use Rattle.std.specs.String.{string_bytes};
+    ghost use Rattle.expansion.specs.Frames.{HeadNow};
+
+    ghost Value = { HeadNow };
+
+    ghost view = { λ h. record { rounds = h.rounds; name = option_map (λ n. string_bytes n) h.name; values = map (λ v. string_bytes v) h.values.items; until = h.until } };
 }
 
 /// This place if its word is `until`, or none if the words end before it. Another word is a fault.
-fn until_at(words: &[Filled], place: usize) -> Result<Option<usize>, ExpandError> {
+fn until_at(words: &[Filled], place: usize) -> Result<Option<usize>, ExpandError>
+    ensures place { Gives as_is result (until_at words.now place) }
+    ensures within { IfOk result (λ until. IfSome until (λ at. at < length words.now)) }
+{
     if is_at(words, place, "until") {
         return Ok(Some(place));
     }
@@ -68,22 +87,49 @@ fn until_at(words: &[Filled], place: usize) -> Result<Option<usize>, ExpandError
     Ok(None)
 }
 
-/// `repeat NAME in WORD ..`.
-fn head_of_words(alloc: Global, words: &[Filled]) -> Result<Head, ExpandError> {
-    let name = copy_of(alloc, checked_name(word_at(words, 1)?)?)?;
-    let mut values = Vec::new(alloc);
-    values.push(copy_of(alloc, word_at(words, 3)?.source.as_str())?)?;
-    let mut until = None;
-    for place in 4..words.len() {
-        let word = word_at(words, place)?;
-        if until.is_none() && word.is("until") {
-            until = Some(place);
-        }
-        if until.is_none() {
-            values.push(copy_of(alloc, word.source.as_str())?)?;
+/// The place of the first `until` from this place on.
+fn first_until(words: &[Filled], place: usize) -> Option<usize>
+    ensures place { result ≡ first_until words.now place }
+    ensures from { IfSome result (λ at. place ≤ at) }
+    ensures within { IfSome result (λ at. at < length words.now) }
+{
+    for at in place..words.len() {
+        if is_at(words, at, "until") {
+            return Some(at);
         }
     }
+    None
+}
+
+/// The words from one place to before another, with their quotes.
+fn sources(
+    alloc: Global,
+    words: &[Filled],
+    first: usize,
+    end: usize,
+) -> Result<Vec<String>, AllocError>
+    requires order { first ≤ end }
+    requires within { end ≤ length words.now }
+    ensures { IfOk result (λ copies. map (λ s. string_bytes s) copies.items ≡ sources words.now first end) }
+{
+    let mut copies = Vec::new(alloc);
+    for word in &words[first..end] {
+        copies.push(String::from_str(alloc, word.source())?)?;
+    }
+    Ok(copies)
+}
+
+/// `repeat NAME in WORD ..`.
+fn head_of_words(alloc: Global, words: &[Filled]) -> Result<Head, ExpandError>
+    ensures head { Gives as_is result (head_of_words words.now) }
+    ensures until { IfOk result (λ head. IfSome head.until (λ at. at < length words.now)) }
+{
+    let name = checked_name(word_at(words, 1)?)?;
+    word_at(words, 3)?;
+    let until = first_until(words, 4);
+    let values = sources(alloc, words, 3, until.unwrap_or(words.len()))?;
     let rounds = u32::try_from(values.len()).unwrap_or(u32::MAX);
+    let name = String::from_str(alloc, name)?;
     Ok(Head {
         rounds,
         name: Some(name),
@@ -92,28 +138,52 @@ fn head_of_words(alloc: Global, words: &[Filled]) -> Result<Head, ExpandError> {
     })
 }
 
-/// `repeat N`, or `repeat N as NAME`.
-fn head_of_number(alloc: Global, words: &[Filled]) -> Result<Head, ExpandError> {
-    let rounds = number_within(word_at(words, 1)?, 0, MOST_ROUNDS)? as u32;
-    let values = Vec::new(alloc);
-    if !is_at(words, 2, "as") {
-        return Ok(Head {
-            rounds,
-            name: None,
-            values,
-            until: until_at(words, 2)?,
-        });
-    }
-    let name = copy_of(alloc, checked_name(word_at(words, 3)?)?)?;
+/// `as NAME` follows the number of rounds.
+fn head_named(alloc: Global, words: &[Filled], rounds: u32) -> Result<Head, ExpandError>
+    ensures head { Gives as_is result (head_named words.now rounds) }
+    ensures until { IfOk result (λ head. IfSome head.until (λ at. at < length words.now)) }
+{
+    let name = checked_name(word_at(words, 3)?)?;
+    let until = until_at(words, 4)?;
+    let name = String::from_str(alloc, name)?;
     Ok(Head {
         rounds,
         name: Some(name),
-        values,
-        until: until_at(words, 4)?,
+        values: Vec::new(alloc),
+        until,
     })
 }
 
-fn head_of(alloc: Global, words: &[Filled]) -> Result<Head, ExpandError> {
+fn head_unnamed(alloc: Global, words: &[Filled], rounds: u32) -> Result<Head, ExpandError>
+    ensures head { Gives as_is result (head_unnamed words.now rounds) }
+    ensures until { IfOk result (λ head. IfSome head.until (λ at. at < length words.now)) }
+{
+    let until = until_at(words, 2)?;
+    Ok(Head {
+        rounds,
+        name: None,
+        values: Vec::new(alloc),
+        until,
+    })
+}
+
+/// `repeat N`, or `repeat N as NAME`.
+fn head_of_number(alloc: Global, words: &[Filled]) -> Result<Head, ExpandError>
+    ensures head { Gives as_is result (head_of_number words.now) }
+    ensures until { IfOk result (λ head. IfSome head.until (λ at. at < length words.now)) }
+{
+    let rounds = number_within(word_at(words, 1)?, 0, 1_000_000)? as u32;
+    if is_at(words, 2, "as") {
+        head_named(alloc, words, rounds)
+    } else {
+        head_unnamed(alloc, words, rounds)
+    }
+}
+
+fn head_of(alloc: Global, words: &[Filled]) -> Result<Head, ExpandError>
+    ensures head { Gives as_is result (head_of words.now) }
+    ensures until { IfOk result (λ head. IfSome head.until (λ at. at < length words.now)) }
+{
     word_at(words, 1)?;
     if is_at(words, 2, "in") {
         head_of_words(alloc, words)
@@ -122,9 +192,30 @@ fn head_of(alloc: Global, words: &[Filled]) -> Result<Head, ExpandError> {
     }
 }
 
+/// Whether `until`, if it is there, is allowed, and a condition follows it.
+fn check_until(
+    scene: &Scene,
+    words: &[Filled],
+    no_until: bool,
+    until: Option<usize>,
+) -> Result<(), ExpandError>
+    requires { IfSome until (λ at. at < length words.now) }
+    ensures { Gives as_is result (until_form words.now no_until until) }
+{
+    let Some(place) = until else {
+        return Ok(());
+    };
+    if no_until {
+        return Err(word_at(words, place)?.fault(Cause::Until));
+    }
+    scene.check_condition(words, place + 1, false)
+}
+
 impl Frame {
     /// A block that is worked once, from this line to before another.
-    pub fn once(alloc: Global, block: Block, begin: usize, end: usize, scope: usize) -> Frame {
+    pub fn once(alloc: Global, block: Block, begin: usize, end: usize, scope: usize) -> Frame
+        ensures { result ≡ once block begin end scope }
+    {
         Frame {
             block,
             begin,
@@ -148,14 +239,11 @@ impl Frame {
         begin: usize,
         end: usize,
         no_until: bool,
-    ) -> Result<Frame, ExpandError> {
+    ) -> Result<Frame, ExpandError>
+        ensures { Gives as_is result (repeated scene.now words.items begin end no_until) }
+    {
         let head = head_of(scene.alloc, words.as_slice())?;
-        if let Some(place) = head.until {
-            if no_until {
-                return Err(word_at(words.as_slice(), place)?.fault(Cause::Until));
-            }
-            scene.check_condition(words.as_slice(), place.saturating_add(1), false)?;
-        }
+        check_until(scene, words.as_slice(), no_until, head.until)?;
         let Head {
             rounds,
             name,
@@ -179,7 +267,9 @@ impl Frame {
     }
 
     /// Gives the round its number and its word.
-    pub fn name_round(&self, scene: &mut Scene) -> Result<(), ExpandError> {
+    pub fn name_round(&self, scene: &mut Scene) -> Result<(), AllocError>
+        ensures { OnOk result (scene.new ≡ named_round self.now.name self.now.values self.now.round scene.old) }
+    {
         let number = format!(in scene.alloc; "{}", self.round)?;
         scene.set_value("round", number.as_str())?;
         let Some(name) = &self.name else {
@@ -189,16 +279,13 @@ impl Frame {
             None => number.as_str(),
             Some(value) => value.as_str(),
         };
-        scene.set_value(name.as_str(), value)?;
-        Ok(())
+        scene.set_value(name.as_str(), value)
     }
 
     /// The next round, if there is one.
     pub fn next_round(&mut self) -> bool
-        ensures more { result ≡ nat_lt self.old.round self.old.rounds }
-        ensures counted { self.new.round ≡ (if nat_lt self.old.round self.old.rounds then self.old.round + 1 else self.old.round) }
-        ensures begins { OnTrue result (self.new.at ≡ self.old.begin) }
-        ensures rounds { self.new.rounds ≡ self.old.rounds }
+        ensures more { result ≡ more_rounds self.old }
+        ensures next { self.new ≡ (if more_rounds self.old then in_next_round self.old else self.old) }
     {
         if self.round >= self.rounds {
             return false;

@@ -1,15 +1,15 @@
 //! The script that a scenario stands for.
 
 use crate::expansion::{Cuts, Expansion, Item};
-use crate::fault::ExpandError;
-use crate::header::{DeviceCall, Header};
-use crate::names::Names;
-use crate::program::Program;
 use machine::command::{Actor, Command};
 use machine::config::Placement;
 use machine::event::{Op, Place};
 use machine::record::Guard;
+use scenario_words::fault::ExpandError;
+use scenario_words::header::{DeviceCall, Header};
+use scenario_words::names::Names;
 use scenarios::holes::Named;
+use scenarios::scenario::Scenario;
 use std::alloc::{AllocError, Global};
 
 /// The text, with the scenario's line and the rounds of its last entry.
@@ -97,6 +97,26 @@ fn add_access(
     }
 }
 
+fn add_two(text: &mut String, first: &str, second: &str) -> Result<(), AllocError> {
+    write!(text, "{first} {second}")
+}
+
+fn add_three(text: &mut String, first: &str, second: &str, third: &str) -> Result<(), AllocError> {
+    write!(text, "{first} {second} {third}")
+}
+
+fn add_set(text: &mut String, path: &str, file: &str, value: &str) -> Result<(), AllocError> {
+    write!(text, "set {path} {file} {value}")
+}
+
+/// The word of a script that shows this protection.
+fn shown(guard: Guard) -> &'static str {
+    match guard {
+        Guard::Min => "prot",
+        Guard::Low => "lowprot",
+    }
+}
+
 fn add_command(
     text: &mut String,
     header: &Header,
@@ -108,32 +128,21 @@ fn add_command(
         Command::Fork { child } => write!(text, "fork {child}"),
         Command::Free { page } => write!(text, "free {page}"),
         Command::Exit => text.push_str("exit"),
-        Command::Group(path) => write!(text, "group {}", path.as_str()),
-        Command::Rmdir(path) => write!(text, "rmdir {}", path.as_str()),
+        Command::Group(path) => add_two(text, "group", path.as_str()),
+        Command::Rmdir(path) => add_two(text, "rmdir", path.as_str()),
         Command::Task { task, path } => write!(text, "task {task} {}", path.as_str()),
         Command::Attach { task, path } => write!(text, "attach {task} {}", path.as_str()),
         Command::Set {
             path,
             file,
             text: value,
-        } => write!(
-            text,
-            "set {} {} {}",
-            path.as_str(),
-            file.as_str(),
-            value.as_str()
-        ),
-        Command::Cat { path, file } => write!(text, "cat {} {}", path.as_str(), file.as_str()),
+        } => add_set(text, path.as_str(), file.as_str(), value.as_str()),
+        Command::Cat { path, file } => add_three(text, "cat", path.as_str(), file.as_str()),
         Command::Protection {
-            guard: Guard::Min,
+            guard,
             target,
             path,
-        } => write!(text, "prot {} {}", target.as_str(), path.as_str()),
-        Command::Protection {
-            guard: Guard::Low,
-            target,
-            path,
-        } => write!(text, "lowprot {} {}", target.as_str(), path.as_str()),
+        } => add_three(text, shown(*guard), target.as_str(), path.as_str()),
         Command::Daemon => text.push_str("daemon"),
     }
 }
@@ -195,6 +204,17 @@ impl Script {
         Ok(())
     }
 
+    /// Adds the lines of all items that are left.
+    fn add_all(&mut self, alloc: Global, expansion: &mut Expansion<'_>) -> Result<(), ExpandError> {
+        for _ in 0..u64::MAX {
+            match expansion.next()? {
+                None => break,
+                Some(item) => self.add(alloc, expansion, &item)?,
+            }
+        }
+        Ok(())
+    }
+
     /// Adds the lines of an item.
     fn add(
         &mut self,
@@ -214,6 +234,8 @@ impl Script {
                 self.place(alloc, line, rounds, false)?;
                 self.text.push_str(words.as_str())?;
             }
+            // Not reached: the lengths are given.
+            Item::Opened | Item::Unreached(_) => return Ok(()),
             Item::Entry(actor, command) => {
                 self.place(alloc, line, rounds, false)?;
                 let header = expansion.header();
@@ -224,28 +246,35 @@ impl Script {
     }
 }
 
+/// The header's lines.
+fn head_of(alloc: Global, header: &Header, names: &Names) -> Result<String, AllocError> {
+    let mut text = String::new(alloc);
+    add_head(&mut text, header)?;
+    add_files(&mut text, header, names)?;
+    Ok(text)
+}
+
+/// The script of an expansion of which nothing was taken.
+fn script_of(alloc: Global, expansion: &mut Expansion<'_>) -> Result<String, ExpandError> {
+    let text = head_of(alloc, expansion.header(), expansion.names())?;
+    let mut script = Script {
+        text,
+        line: 0,
+        rounds: Vec::new(alloc),
+    };
+    script.add_all(alloc, expansion)?;
+    let Script { text, .. } = script;
+    Ok(text)
+}
+
 /// The script of a scenario, with these words instead of those of its `let` lines and with these lengths of the lists
 /// with `until`. An error is the first fault.
 pub fn expand_text(
     alloc: Global,
-    program: &Program,
+    scenario: &Scenario,
     settings: Vec<Named>,
     lengths: Vec<u64>,
 ) -> Result<String, ExpandError> {
-    let mut expansion = Expansion::new(alloc, program, settings, Cuts::Given(lengths))?;
-    let mut script = Script {
-        text: String::new(alloc),
-        line: 0,
-        rounds: Vec::new(alloc),
-    };
-    add_head(&mut script.text, expansion.header())?;
-    add_files(&mut script.text, expansion.header(), expansion.names())?;
-    for _ in 0..u64::MAX {
-        match expansion.next()? {
-            None => break,
-            Some(item) => script.add(alloc, &expansion, &item)?,
-        }
-    }
-    let Script { text, .. } = script;
-    Ok(text)
+    let mut expansion = Expansion::new(alloc, scenario, settings, Cuts::Given(lengths))?;
+    script_of(alloc, &mut expansion)
 }

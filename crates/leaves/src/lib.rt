@@ -17,4 +17,8 @@ mod marks_tests;
 #[cfg(test)]
 mod rings_tests;
 #[cfg(test)]
+mod scenario_tests;
+#[cfg(test)]
 mod trace_tests;
+#[cfg(test)]
+mod walks_tests;

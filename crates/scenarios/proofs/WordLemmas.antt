@@ -10,13 +10,10 @@ use Rattle.std.proofs.lemmas.List.Splits.{slice_split_at, slice_split_none}
 use Rattle.std.proofs.lemmas.List.Sums.{take_while-cons}
 use Rattle.std.proofs.lemmas.Str.{encodes-append, length-encode, len_utf8_bounds}
 use Rattle.scripts.specs.Words.{is_blank}
-use Rattle.scenarios.specs.declared.words.WordCause.TheVariants as cause
-use Rattle.scenarios.specs.declared.words.WordFault.{WordFault}
 use Rattle.scenarios.specs.declared.words.WordError.{WordError}
-use Rattle.scenarios.specs.declared.words.WordError.TheVariants as error
 use Rattle.scenarios.specs.Pieces.{is_brace}
-use Rattle.scenarios.specs.Words.{TextWord, Mark, is_quote, turned, marks, is_comment, is_gap, is_there, column_of, is_quoted, open_behind, has_brace, text_of, fault_at, closed_word, word_of, before_words, first_word, words_in, words_of, Gives}
-use Rattle.scenarios.specs.Reading.{PartRead, LineRead, longer, started, with_part, with_word, words_with, part_ended, ended_in, one_on, with_character, words_at_end, words_read, read_on, rest_read, at_start}
+use Rattle.scenarios.specs.Words.{TextWord, Mark, is_quote, turned, marks, is_comment, is_gap, is_there, column_of, is_quoted, open_behind, has_brace, text_of, source_of, closed_word, word_of, before_words, first_word, words_in, words_of, Gives}
+use Rattle.scenarios.specs.Reading.{PartRead, LineRead, longer, started, with_part, with_gap, word_read, with_character, words_at_end, words_read, rest_read, at_start}
 
 -- ---- one character more in a part
 
@@ -46,10 +43,18 @@ text_push part m =
     ap (filter (λ d. not (is_quote d))) (map-append (λ (n : Mark). n.character) part (m ∷ [])) ∙ filter-append (λ d. not (is_quote d)) (map (λ n. n.character) part) (c ∷ []) in
     ap encode_utf8_all split ∙ encodes-append (unquoted part) (filter (λ d. not (is_quote d)) (c ∷ [])) ∙ by_quote (text_of part) c (is_quote c) refl
 
+source_push : (part : List Mark) (m : Mark) → source_of (part ++ m ∷ []) ≡ source_of part ++ encode_utf8 m.character
+source_push part m =
+    ap encode_utf8_all (map-append (λ (n : Mark). n.character) part (m ∷ [])) ∙ encodes-append (map (λ n. n.character) part) (m.character ∷ [])
+    ∙ ap (λ (bs : List ℕ). source_of part ++ bs) (append-nil (encode_utf8 m.character))
+
 -- what is read of a part
+abbrev pub part_read_of : List Mark → PartRead
+part_read_of part = record { column = column_of part; source = source_of part; text = text_of part; quoted = is_quoted part; braces = has_brace part }
+
 abbrev pub part_of : List Mark → Option PartRead
 part_of [] = None
-part_of (m ∷ ms) = Some (record { column = m.column; text = text_of (m ∷ ms); quoted = is_quoted (m ∷ ms); braces = has_brace (m ∷ ms) })
+part_of (m ∷ ms) = Some (part_read_of (m ∷ ms))
 
 abbrev pub state_of : ℕ → List Mark → List TextWord → LineRead
 state_of before part ws = record { before = before; inside = open_behind false part; part = part_of part; words = ws }
@@ -57,84 +62,98 @@ state_of before part ws = record { before = before; inside = open_behind false p
 abbrev pub mark : ℕ → Bool → ℕ → Mark
 mark before inside c = record { character = c; column = before + 1; inside = inside }
 
-abbrev some_part : ℕ → List ℕ → Bool → Bool → Option PartRead
-some_part column text quoted braces = Some (record { column = column; text = text; quoted = quoted; braces = braces })
+abbrev some_part : ℕ → List ℕ → List ℕ → Bool → Bool → Option PartRead
+some_part column source text quoted braces = Some (record { column = column; source = source; text = text; quoted = quoted; braces = braces })
 
-same_part : (column : ℕ) (text text' : List ℕ) (quoted quoted' braces braces' : Bool) → text ≡ text' → quoted ≡ quoted' → braces ≡ braces' → some_part column text quoted braces ≡ some_part column text' quoted' braces'
-same_part column text text' quoted quoted' braces braces' e f g = cc
+same_part : (column : ℕ) (source source' text text' : List ℕ) (quoted quoted' braces braces' : Bool) → source ≡ source' → text ≡ text' → quoted ≡ quoted' → braces ≡ braces'
+    → some_part column source text quoted braces ≡ some_part column source' text' quoted' braces'
+same_part column source source' text text' quoted quoted' braces braces' d e f g = cc
 
 part_push : (before : ℕ) (inside : Bool) (part : List Mark) (c : ℕ) → part_of (part ++ mark before inside c ∷ []) ≡ Some (longer (started (part_of part) before) inside c)
-part_push before inside [] c = same_part (before + 1) _ _ _ _ _ _ (text_push [] (mark before inside c)) (or_false (is_quote c)) (or_false (not inside && is_brace c))
+part_push before inside [] c =
+    let m = mark before inside c in
+    same_part (before + 1) _ _ _ _ _ _ _ _ (source_push [] m) (text_push [] m) (or_false (is_quote c)) (or_false (not inside && is_brace c))
 part_push before inside (p ∷ ps) c =
     let m = mark before inside c in
-    same_part p.column _ _ _ _ _ _ (text_push (p ∷ ps) m) (any_push (λ n. is_quote n.character) (p ∷ ps) m) (any_push (λ n. not n.inside && is_brace n.character) (p ∷ ps) m)
+    same_part p.column _ _ _ _ _ _ _ _ (source_push (p ∷ ps) m) (text_push (p ∷ ps) m) (any_push (λ n. is_quote n.character) (p ∷ ps) m) (any_push (λ n. not n.inside && is_brace n.character) (p ∷ ps) m)
 
 state_push : (before : ℕ) (part : List Mark) (ws : List TextWord) (c : ℕ) → with_part (state_of before part ws) c ≡ state_of (before + 1) (part ++ mark before (open_behind false part) c ∷ []) ws
 state_push before part ws c = rw (part_push before (open_behind false part) part c, open_push false part (mark before (open_behind false part) c)) refl
 
 -- ---- words behind others
 
-abbrev pub onto_words : List TextWord → Result (List TextWord) WordFault → Result (List TextWord) WordFault
+abbrev pub onto_words : List TextWord → Result (List TextWord) ℕ → Result (List TextWord) ℕ
 onto_words ws (Ok more) = Ok (ws ++ more)
 onto_words ws (Err e) = Err e
 
-onto_more : (ws : List TextWord) (w : TextWord) (r : Result (List TextWord) WordFault) → onto_words (ws ++ w ∷ []) r ≡ onto_words ws (before_words w r)
+onto_more : (ws : List TextWord) (w : TextWord) (r : Result (List TextWord) ℕ) → onto_words (ws ++ w ∷ []) r ≡ onto_words ws (before_words w r)
 onto_more ws w (Ok more) = ap Ok (append_assoc ws (w ∷ []) more)
 onto_more ws w (Err e) = refl
 
 -- the words of what is still to come, behind a part
-abbrev pub to_come : ℕ → List Mark → List ℕ → Result (List TextWord) WordFault
+abbrev pub to_come : ℕ → List Mark → List ℕ → Result (List TextWord) ℕ
 to_come before part cs = words_in (filter is_there (slice_split is_gap (part ++ take_while (λ m. not (is_comment m)) (marks before (open_behind false part) cs))))
 
+-- a part with characters ends with the last one that was read
+abbrev pub EndsHere : ℕ → List Mark → Type 0
+EndsHere before [] = Unit {0}
+EndsHere before (m ∷ ms) = m.column + length (m ∷ ms) ≡ before + 1
+
 -- no gap is in a part
-abbrev pub IsPart : List Mark → Type 0
-IsPart part = All (λ m. is_gap m ≡ false) part
+record IsPart (before : ℕ) (part : List Mark) : Type 0 where
+  whole : All (λ m. is_gap m ≡ false) part
+  here : EndsHere before part
+
+no_part : (before : ℕ) → IsPart before []
+no_part before = record { whole = λ k d lt. absurd (omega (arith, lt)); here = tt }
+
+ends_behind : (before : ℕ) (inside : Bool) (part : List Mark) (c : ℕ) → EndsHere before part → EndsHere (before + 1) (part ++ mark before inside c ∷ [])
+ends_behind before inside [] c h = refl
+ends_behind before inside (m ∷ ms) c h = omega (arith, h, length-append ms (mark before inside c ∷ []))
+
+part_goes_on : (before : ℕ) (inside : Bool) (part : List Mark) (c : ℕ) → is_gap (mark before inside c) ≡ false → IsPart before part → IsPart (before + 1) (part ++ mark before inside c ∷ [])
+part_goes_on before inside part c e p =
+    let m = mark before inside c in
+    record { whole = All-push (λ n. is_gap n ≡ false) part m p.whole e; here = ends_behind before inside part c p.here }
+
+-- ---- the end of a word
+
+word_is : (part : List Mark) (still : Bool) → open_behind false part ≡ still → word_of part ≡ cond still (Err (column_of part)) (Ok (closed_word part))
+word_is part still e = ap (λ (b : Bool). cond b (Err (column_of part)) (Ok (closed_word part))) e
+
+closes : (before : ℕ) (m : Mark) (ms : List Mark) → EndsHere before (m ∷ ms) → word_read (part_read_of (m ∷ ms)) (before + 1) ≡ closed_word (m ∷ ms)
+closes before m ms h = ap (word_read (part_read_of (m ∷ ms))) (sym h)
 
 -- ---- the end of a line
 
-word_ends : (ws : List TextWord) (r : Result TextWord WordFault) → with_word ws r ≡ onto_words ws (first_word r (Ok []))
-word_ends ws (Ok w) = refl
-word_ends ws (Err e) = refl
+line_ends : (before : ℕ) (part : List Mark) (ws : List TextWord) (still : Bool) → EndsHere before part → open_behind false part ≡ still
+    → words_at_end still (part_of part) ws (before + 1) ≡ onto_words ws (words_in (filter is_there (part ∷ [])))
+line_ends before [] ws true h e = absurd cc
+line_ends before [] ws false h e = ap Ok (sym (append-nil ws))
+line_ends before (m ∷ ms) ws true h e = ap (λ (r : Result TextWord ℕ). onto_words ws (first_word r (Ok []))) (sym (word_is (m ∷ ms) true e))
+line_ends before (m ∷ ms) ws false h e =
+    ap (λ (w : TextWord). onto_words ws (first_word (Ok w) (Ok []))) (closes before m ms h) ∙ ap (λ (r : Result TextWord ℕ). onto_words ws (first_word r (Ok []))) (sym (word_is (m ∷ ms) false e))
 
-abbrev closed_part : List Mark → Result TextWord WordFault
-closed_part part = closed_word (column_of part) (is_quoted part) (has_brace part) (text_of part)
-
-word_is : (part : List Mark) (still : Bool) → open_behind false part ≡ still → word_of part ≡ cond still (fault_at (column_of part) cause.OpenQuote) (closed_part part)
-word_is part still e = ap (λ (b : Bool). cond b (fault_at (column_of part) cause.OpenQuote) (closed_part part)) e
-
-line_ends : (before : ℕ) (part : List Mark) (ws : List TextWord) (still : Bool) → open_behind false part ≡ still → words_at_end still (part_of part) ws ≡ onto_words ws (words_in (filter is_there (part ∷ [])))
-line_ends before [] ws true e = absurd cc
-line_ends before [] ws false e = ap Ok (sym (append-nil ws))
-line_ends before (m ∷ ms) ws true e = ap (λ (r : Result TextWord WordFault). onto_words ws (first_word r (Ok []))) (sym (word_is (m ∷ ms) true e))
-line_ends before (m ∷ ms) ws false e =
-    word_ends ws (closed_part (m ∷ ms)) ∙ ap (λ (r : Result TextWord WordFault). onto_words ws (first_word r (Ok []))) (sym (word_is (m ∷ ms) false e))
-
-at_end : (before : ℕ) (part : List Mark) (ws : List TextWord) → IsPart part → words_read (state_of before part ws) ≡ onto_words ws (words_in (filter is_there (slice_split is_gap (part ++ []))))
-at_end before part ws whole =
-    let cut : slice_split is_gap (part ++ []) ≡ part ∷ [] = ap (slice_split is_gap) (append-nil part) ∙ slice_split_none is_gap part whole in
-    rw cut (line_ends before part ws (open_behind false part) refl)
+at_end : (before : ℕ) (part : List Mark) (ws : List TextWord) → IsPart before part → words_read (state_of before part ws) ≡ onto_words ws (words_in (filter is_there (slice_split is_gap (part ++ []))))
+at_end before part ws p =
+    let cut : slice_split is_gap (part ++ []) ≡ part ∷ [] = ap (slice_split is_gap) (append-nil part) ∙ slice_split_none is_gap part p.whole in
+    rw cut (line_ends before part ws (open_behind false part) p.here refl)
 
 -- ---- a gap
 
 -- the words of the characters are read behind any part
 abbrev Reads : List ℕ → Type 0
-Reads cs = (before : ℕ) (part : List Mark) (ws : List TextWord) → IsPart part → rest_read (state_of before part ws) cs ≡ onto_words ws (to_come before part cs)
+Reads cs = (before : ℕ) (part : List Mark) (ws : List TextWord) → IsPart before part → rest_read (state_of before part ws) cs ≡ onto_words ws (to_come before part cs)
 
-no_part : IsPart []
-no_part = λ k d lt. absurd (omega (arith, lt))
-
-word_read : (cs : List ℕ) (before : ℕ) (inside : Bool) (ws : List TextWord) (r : Result TextWord WordFault) → inside ≡ false → Reads cs
-    → read_on (one_on (ended_in before inside (with_word ws r))) (λ k. rest_read k cs) ≡ onto_words ws (first_word r (to_come (before + 1) [] cs))
-word_read cs before inside ws (Ok w) e later = rw e (later (before + 1) [] (ws ++ w ∷ []) no_part ∙ onto_more ws w (to_come (before + 1) [] cs))
-word_read cs before inside ws (Err f) e later = refl
-
-gap_read : (cs : List ℕ) (before : ℕ) (part : List Mark) (ws : List TextWord) → open_behind false part ≡ false → Reads cs
-    → read_on (one_on (part_ended (state_of before part ws))) (λ k. rest_read k cs)
+gap_read : (cs : List ℕ) (before : ℕ) (part : List Mark) (ws : List TextWord) → EndsHere before part → open_behind false part ≡ false → Reads cs
+    → rest_read (with_gap (state_of before part ws)) cs
     ≡ onto_words ws (words_in (filter is_there (part ∷ slice_split is_gap (take_while (λ m. not (is_comment m)) (marks (before + 1) false cs)))))
-gap_read cs before [] ws e later = later (before + 1) [] ws no_part
-gap_read cs before (p ∷ ps) ws e later =
-    word_read cs before (open_behind false (p ∷ ps)) ws (closed_part (p ∷ ps)) e later
-    ∙ ap (λ (w : Result TextWord WordFault). onto_words ws (first_word w (to_come (before + 1) [] cs))) (sym (word_is (p ∷ ps) false e))
+gap_read cs before [] ws h e later = later (before + 1) [] ws (no_part (before + 1))
+gap_read cs before (p ∷ ps) ws h e later =
+    let w = closed_word (p ∷ ps) in
+    let gap : with_gap (state_of before (p ∷ ps) ws) ≡ state_of (before + 1) [] (ws ++ w ∷ []) = rw (e, closes before p ps h) refl in
+    ap (λ (k : LineRead). rest_read k cs) gap ∙ later (before + 1) [] (ws ++ w ∷ []) (no_part (before + 1)) ∙ onto_more ws w (to_come (before + 1) [] cs)
+    ∙ ap (λ (r : Result TextWord ℕ). onto_words ws (first_word r (to_come (before + 1) [] cs))) (sym (word_is (p ∷ ps) false e))
 
 -- ---- one character
 
@@ -157,102 +176,76 @@ blank_in : (inside : Bool) (c : ℕ) → (not inside && is_blank c) ≡ true →
 blank_in true c e = absurd cc
 blank_in false c e = e
 
-word_or_gap : (c : ℕ) (cs : List ℕ) (before : ℕ) (part : List Mark) (ws : List TextWord) (gap : Bool) → IsPart part → Reads cs → (not (open_behind false part) && is_blank c) ≡ gap
-    → read_on (cond gap (one_on (part_ended (state_of before part ws))) (Ok (with_part (state_of before part ws) c))) (λ k. rest_read k cs)
+word_or_gap : (c : ℕ) (cs : List ℕ) (before : ℕ) (part : List Mark) (ws : List TextWord) (gap : Bool) → IsPart before part → Reads cs → (not (open_behind false part) && is_blank c) ≡ gap
+    → rest_read (cond gap (with_gap (state_of before part ws)) (with_part (state_of before part ws) c)) cs
     ≡ onto_words ws (words_in (filter is_there (slice_split is_gap (part ++ mark before (open_behind false part) c ∷ left (before + 1) (turned (open_behind false part) c) cs))))
-word_or_gap c cs before part ws true whole later e =
+word_or_gap c cs before part ws true p later e =
     let outside : open_behind false part ≡ false = blank_is_outside (open_behind false part) c e in
     let on : turned (open_behind false part) c ≡ false = ap (λ (b : Bool). turned b c) outside ∙ blank_turns_nothing c (blank_in (open_behind false part) c e) in
     let m = mark before (open_behind false part) c in
     let cut : slice_split is_gap (part ++ m ∷ left (before + 1) (turned (open_behind false part) c) cs) ≡ part ∷ slice_split is_gap (left (before + 1) (turned (open_behind false part) c) cs) =
-    slice_split_at is_gap part m (left (before + 1) (turned (open_behind false part) c) cs) whole e in
-    gap_read cs before part ws outside later
+    slice_split_at is_gap part m (left (before + 1) (turned (open_behind false part) c) cs) p.whole e in
+    gap_read cs before part ws p.here outside later
     ∙ ap (λ (b : Bool). onto_words ws (words_in (filter is_there (part ∷ slice_split is_gap (left (before + 1) b cs))))) (sym on)
     ∙ ap (λ (ps : List (List Mark)). onto_words ws (words_in (filter is_there ps))) (sym cut)
-word_or_gap c cs before part ws false whole later e =
+word_or_gap c cs before part ws false p later e =
     let inside = open_behind false part in
     let m = mark before inside c in
-    let more : IsPart (part ++ m ∷ []) = All-push (λ n. is_gap n ≡ false) part m whole e in
-    ap (λ (k : LineRead). rest_read k cs) (state_push before part ws c) ∙ later (before + 1) (part ++ m ∷ []) ws more
+    ap (λ (k : LineRead). rest_read k cs) (state_push before part ws c) ∙ later (before + 1) (part ++ m ∷ []) ws (part_goes_on before inside part c e p)
     ∙ ap (λ (b : Bool). onto_words ws (words_in (filter is_there (slice_split is_gap ((part ++ m ∷ []) ++ left (before + 1) b cs))))) (open_push false part m)
     ∙ ap (λ (ms : List Mark). onto_words ws (words_in (filter is_there (slice_split is_gap ms)))) (append_assoc part (m ∷ []) (left (before + 1) (turned inside c) cs))
 
-one_read : (c : ℕ) (cs : List ℕ) (before : ℕ) (part : List Mark) (ws : List TextWord) (comment : Bool) → IsPart part → Reads cs → (not (open_behind false part) && eqb c 35) ≡ comment
-    → cond comment (words_read (state_of before part ws)) (read_on (with_character (state_of before part ws) c) (λ k. rest_read k cs)) ≡ onto_words ws (to_come before part (c ∷ cs))
-one_read c cs before part ws true whole later e =
-    at_end before part ws whole
+one_read : (c : ℕ) (cs : List ℕ) (before : ℕ) (part : List Mark) (ws : List TextWord) (comment : Bool) → IsPart before part → Reads cs → (not (open_behind false part) && eqb c 35) ≡ comment
+    → cond comment (words_read (state_of before part ws)) (rest_read (with_character (state_of before part ws) c) cs) ≡ onto_words ws (to_come before part (c ∷ cs))
+one_read c cs before part ws true p later e =
+    at_end before part ws p
     ∙ ap (λ (ms : List Mark). onto_words ws (words_in (filter is_there (slice_split is_gap (part ++ ms))))) (sym (left_at before (open_behind false part) c cs true e))
-one_read c cs before part ws false whole later e =
-    word_or_gap c cs before part ws (not (open_behind false part) && is_blank c) whole later refl
+one_read c cs before part ws false p later e =
+    word_or_gap c cs before part ws (not (open_behind false part) && is_blank c) p later refl
     ∙ ap (λ (ms : List Mark). onto_words ws (words_in (filter is_there (slice_split is_gap (part ++ ms))))) (sym (left_at before (open_behind false part) c cs false e))
 
 -- ---- all characters
 
 all_read : (cs : List ℕ) → Reads cs
-all_read [] = λ before part ws whole. at_end before part ws whole
-all_read (c ∷ cs) = λ before part ws whole. one_read c cs before part ws (not (open_behind false part) && eqb c 35) whole (all_read cs) refl
+all_read [] = λ before part ws p. at_end before part ws p
+all_read (c ∷ cs) = λ before part ws p. one_read c cs before part ws (not (open_behind false part) && eqb c 35) p (all_read cs) refl
 
-onto_none : (r : Result (List TextWord) WordFault) → onto_words [] r ≡ r
+onto_none : (r : Result (List TextWord) ℕ) → onto_words [] r ≡ r
 onto_none (Ok ws) = refl
 onto_none (Err e) = refl
 
 pub reads_words : (cs : List ℕ) → rest_read at_start cs ≡ words_of cs
-reads_words cs = all_read cs 0 [] [] no_part ∙ onto_none (words_of cs)
+reads_words cs = all_read cs 0 [] [] (no_part 0) ∙ onto_none (words_of cs)
 
 -- ---- the loop
 
 pub comment_ends : (k : LineRead) (c : ℕ) (cs rest line : List ℕ) → rest ≡ c ∷ cs → (not k.inside && eqb c 35) ≡ true → rest_read k rest ≡ rest_read at_start line → words_read k ≡ words_of line
-comment_ends k c cs rest line e test so_far = ap (λ (b : Bool). cond b (words_read k) (read_on (with_character k c) (λ k'. rest_read k' cs))) (sym test) ∙ ap (rest_read k) (sym e) ∙ so_far ∙ reads_words line
+comment_ends k c cs rest line e test so_far = ap (λ (b : Bool). cond b (words_read k) (rest_read (with_character k c) cs)) (sym test) ∙ ap (rest_read k) (sym e) ∙ so_far ∙ reads_words line
 
 pub rest_ends : (k : LineRead) (rest line : List ℕ) → rest ≡ [] → rest_read k rest ≡ rest_read at_start line → words_read k ≡ words_of line
 rest_ends k rest line e so_far = ap (rest_read k) (sym e) ∙ so_far ∙ reads_words line
 
-pub read_goes_on : (k k' : LineRead) (c : ℕ) (cs rest line : List ℕ) → rest ≡ c ∷ cs → (not k.inside && eqb c 35) ≡ false → with_character k c ≡ Ok k' → rest_read k rest ≡ rest_read at_start line
+pub read_goes_on : (k k' : LineRead) (c : ℕ) (cs rest line : List ℕ) → rest ≡ c ∷ cs → (not k.inside && eqb c 35) ≡ false → k' ≡ with_character k c → rest_read k rest ≡ rest_read at_start line
     → rest_read k' cs ≡ rest_read at_start line
 read_goes_on k k' c cs rest line e test read so_far =
-    let here : rest_read k (c ∷ cs) ≡ rest_read k' cs = rw (test, read) refl in
-    sym here ∙ ap (rest_read k) (sym e) ∙ so_far
-
-pub read_fails : (k : LineRead) (f : WordFault) (c : ℕ) (cs rest line : List ℕ) → rest ≡ c ∷ cs → (not k.inside && eqb c 35) ≡ false → with_character k c ≡ Err f → rest_read k rest ≡ rest_read at_start line
-    → words_of line ≡ Err f
-read_fails k f c cs rest line e test read so_far =
-    let here : rest_read k (c ∷ cs) ≡ Err f = rw (test, read) refl in
-    sym (reads_words line) ∙ sym so_far ∙ ap (rest_read k) e ∙ here
+    let here : rest_read k (c ∷ cs) ≡ rest_read (with_character k c) cs = rw test refl in
+    ap (λ (x : LineRead). rest_read x cs) read ∙ sym here ∙ ap (rest_read k) (sym e) ∙ so_far
 
 -- ---- what a function gives
 
-pub gives_same : {T : Type 0} {U : Type 0} (shown : T → U) (r : Result T WordError) (a b : Result U WordFault) → a ≡ b → Gives shown r a → Gives shown r b
-gives_same {U = U} shown r a b e g = subst (λ (x : Result U WordFault). Gives shown r x) e g
-
--- an error ends the reading
-pub fails_so : {T : Type 0} (shown : T → LineRead) (e : WordError) (k : LineRead) (c : ℕ) (cs rest line : List ℕ) {V : Type 0} (listed : V → List TextWord) → rest ≡ c ∷ cs → (not k.inside && eqb c 35) ≡ false
-    → rest_read k rest ≡ rest_read at_start line → Gives shown (Err e) (with_character k c) → Gives listed (Err e) (words_of line)
-fails_so shown error.Memory k c cs rest line listed e test so_far g = tt
-fails_so shown (error.Fault f) k c cs rest line listed e test so_far g = read_fails k f c cs rest line e test g so_far
+pub gives_same : {T : Type 0} {U : Type 0} (shown : T → U) (r : Result T WordError) (a b : Result U ℕ) → a ≡ b → Gives shown r a → Gives shown r b
+gives_same {U = U} shown r a b e g = subst (λ (x : Result U ℕ). Gives shown r x) e g
 
 -- ---- one character more is counted
 
-abbrev read_so : LineRead → Result LineRead WordFault
-read_so k = Ok k
-
-ok_inj : {k k' : LineRead} → read_so k ≡ read_so k' → k ≡ k'
-ok_inj e = cc
-
-counts_gap : (before : ℕ) (inside : Bool) (r : Result (List TextWord) WordFault) (k : LineRead) → one_on (ended_in before inside r) ≡ Ok k → k.before ≡ before + 1
-counts_gap before inside (Ok ws) k e = sym (ap (λ (x : LineRead). x.before) (ok_inj e))
-counts_gap before inside (Err f) k e = absurd cc
-
-counts_by : (k k' : LineRead) (c : ℕ) (gap : Bool) → cond gap (one_on (part_ended k)) (Ok (with_part k c)) ≡ Ok k' → k'.before ≡ k.before + 1
-counts_by k k' c true e = counts_gap k.before k.inside (words_with k.words k.part) k' e
-counts_by k k' c false e = sym (ap (λ (x : LineRead). x.before) (ok_inj e))
-
-counts_one : (k k' : LineRead) (c : ℕ) → with_character k c ≡ Ok k' → k'.before ≡ k.before + 1
-counts_one k k' c e = counts_by k k' c (not k.inside && is_blank c) e
+counts_by : (k : LineRead) (c : ℕ) (gap : Bool) → (cond gap (with_gap k) (with_part k c)).before ≡ k.before + 1
+counts_by k c true = refl
+counts_by k c false = refl
 
 -- so the characters read are no more than the line's bytes
-pub counted : (k k' : LineRead) (c most : ℕ) (rest more : List ℕ) → with_character k c ≡ Ok k' → rest ≡ encode_utf8 c ++ more → k.before + length rest ≤ most → k'.before + length more ≤ most
+pub counted : (k k' : LineRead) (c most : ℕ) (rest more : List ℕ) → k' ≡ with_character k c → rest ≡ encode_utf8 c ++ more → k.before + length rest ≤ most → k'.before + length more ≤ most
 counted k k' c most rest more e cut le =
-    let one = counts_one k k' c e in
+    let one : k'.before ≡ k.before + 1 = ap (λ (x : LineRead). x.before) e ∙ counts_by k c (not k.inside && is_blank c) in
     let long : length rest ≡ length (encode_utf8 c) + length more = ap length cut ∙ length-append (encode_utf8 c) more in
     let some : 1 ≤ length (encode_utf8 c) = omega (arith, length-encode c, len_utf8_bounds c) in
     omega arith

@@ -12,7 +12,7 @@ use Rattle.scenarios.specs.Scenario.{Before, lines_from}
 
 -- what the next line has to know
 abbrev pub before_of : Reading → Before
-before_of r = record { body = r.body; kept = length r.lines.items; opened = r.opened.items }
+before_of r = record { kept = length r.lines.items; opened = r.opened.items }
 
 -- where the open blocks begin, the innermost first
 abbrev pub places_of : List Opened → List ℕ

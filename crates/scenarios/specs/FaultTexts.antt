@@ -1,17 +1,13 @@
 -- What is said of a fault.
 use Rattle.std.specs.Prelude.{ℕ, List, ◌++◌, codes, decimal}
 use Rattle.scenarios.specs.declared.fault.Cause.{Cause}
-use Rattle.scenarios.specs.declared.fault.Cause.TheVariants.{NotText, Word, HeaderBelow, EndAlone, BehindEnd, NoEnd}
+use Rattle.scenarios.specs.declared.fault.Cause.TheVariants.{NotText, OpenQuote, EndAlone, BehindEnd, NoEnd}
 use Rattle.scenarios.specs.declared.fault.Fault.{Fault}
-use Rattle.scenarios.specs.declared.words.WordCause.TheVariants.{OpenQuote, Braces, BraceBesideQuotes}
 
 -- what is wrong, and what to do
 abbrev pub cause_text : Cause → List ℕ
 cause_text NotText = codes "the line is not UTF-8; save the file as UTF-8"
-cause_text (Word OpenQuote) = codes "a quote is not closed; write the second quote on this line"
-cause_text (Word Braces) = codes "braces without a name between them; write {NAME}"
-cause_text (Word BraceBesideQuotes) = codes "braces in a word with quotes; write the word without quotes"
-cause_text HeaderBelow = codes "a line of the header below other lines; move it to the top"
+cause_text OpenQuote = codes "a quote is not closed; write the second quote on this line"
 cause_text EndAlone = codes "no block is open here; remove this \"end\""
 cause_text BehindEnd = codes "nothing may follow \"end\"; remove this word"
 cause_text NoEnd = codes "the block has no end; write \"end\" below its last line"

@@ -15,10 +15,11 @@ abbrev pub plain_text : Kind → List ℕ → Option (List ℕ)
 plain_text kind.Text text = Some text
 plain_text kind.Hole name = None
 
-abbrev pub only_text : List TextPiece → Option (List ℕ)
-only_text [] = None
-only_text (p ∷ []) = plain_text p.kind p.text
-only_text (p ∷ q ∷ ps) = None
+abbrev pub only_text : Option (List TextPiece) → Option (List ℕ)
+only_text None = None
+only_text (Some []) = None
+only_text (Some (p ∷ [])) = plain_text p.kind p.text
+only_text (Some (p ∷ q ∷ ps)) = None
 
 -- the text of a word without quotes and holes, which alone may be a word of the language
 abbrev pub literal : TextWord → Option (List ℕ)

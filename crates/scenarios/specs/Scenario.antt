@@ -1,5 +1,5 @@
 -- What the text of a scenario says, or its first fault.
-use Rattle.std.specs.Prelude.{◌≡◌, ℕ, ◌+◌, ◌-◌, Bool, true, false, ◌||◌, List, [], ◌∷◌, ◌++◌, length, take, count_by, nat_lt, nat_le, Option, Some, None, Result, Ok, Err, if◌then◌else◌}
+use Rattle.std.specs.Prelude.{◌≡◌, ℕ, ◌+◌, ◌-◌, Bool, ◌||◌, List, [], ◌∷◌, ◌++◌, length, take, count_by, nat_lt, nat_le, Option, Some, None, Result, Ok, Err, if◌then◌else◌}
 use Rattle.std.specs.Str.{chars, is_utf8}
 use Rattle.std.specs.Str.Lines.{lines}
 use Rattle.std.specs.Str.Lossy.{utf8_valid_len}
@@ -11,20 +11,18 @@ use Rattle.scenarios.specs.declared.fault.ReadError.TheVariants as error
 use Rattle.scenarios.specs.declared.lines.LineKind.{LineKind}
 use Rattle.scenarios.specs.declared.lines.LineKind.TheVariants as line
 use Rattle.scenarios.specs.declared.scenario.Opened.{Opened}
-use Rattle.scenarios.specs.declared.words.WordFault.{WordFault}
 use Rattle.scenarios.specs.Words.{TextWord, words_of}
 use Rattle.scenarios.specs.Lines.{kind_of, WordLine, TextLine, tree_of, flat}
 
 -- ---- what a line has to know of those before it
 
--- a line came that is none of the header's; how many lines there are without those that end blocks; the blocks that are not ended, the outermost first
+-- how many lines there are without those that end blocks; the blocks that are not ended, the outermost first
 pub record Before : Type 0 where
-  pub body : Bool
   pub kept : ℕ
   pub opened : List Opened
 
 abbrev pub at_start : Before
-at_start = record { body = false; kept = 0; opened = [] }
+at_start = record { kept = 0; opened = [] }
 
 abbrev pub column_at : List TextWord → ℕ → ℕ
 column_at [] place = 1
@@ -46,10 +44,10 @@ end_fault number (o ∷ os) ws = behind_end number ws
     behind_end n (v ∷ []) = None
     behind_end n (v ∷ w ∷ more) = Some (fault_in n w.column cause.BehindEnd)
 
--- what is wrong with the place of a line of this kind
+-- what is wrong with the place of a line of this kind. A line of the header may be anywhere here: its holes are not filled yet, and below other lines an expander finds it
 abbrev pub place_fault : ℕ → Before → LineKind → List TextWord → Option Fault
-place_fault number before line.Header ws = if before.body then Some (fault_in number (first_column ws) cause.HeaderBelow) else None
 place_fault number before line.End ws = end_fault number before.opened ws
+place_fault number before line.Header ws = None
 place_fault number before line.Let ws = None
 place_fault number before line.Repeat ws = None
 place_fault number before line.Together ws = None
@@ -57,22 +55,22 @@ place_fault number before line.Other ws = None
 
 abbrev pub with_block : ℕ → Before → List TextWord → Before
 with_block number before ws =
-    record { body = true; kept = before.kept + 1; opened = before.opened ++ record { place = before.kept; number = number; column = first_column ws } ∷ [] }
+    record { kept = before.kept + 1; opened = before.opened ++ record { place = before.kept; number = number; column = first_column ws } ∷ [] }
 
 -- after a line of this kind
 abbrev pub behind : ℕ → Before → LineKind → List TextWord → Before
-behind number before line.Header ws = record { body = before.body; kept = before.kept + 1; opened = before.opened }
-behind number before line.Let ws = record { body = before.body; kept = before.kept + 1; opened = before.opened }
-behind number before line.Other ws = record { body = true; kept = before.kept + 1; opened = before.opened }
+behind number before line.Header ws = record { kept = before.kept + 1; opened = before.opened }
+behind number before line.Let ws = record { kept = before.kept + 1; opened = before.opened }
+behind number before line.Other ws = record { kept = before.kept + 1; opened = before.opened }
 behind number before line.Repeat ws = with_block number before ws
 behind number before line.Together ws = with_block number before ws
-behind number before line.End ws = record { body = before.body; kept = before.kept; opened = take (length before.opened - 1) before.opened }
+behind number before line.End ws = record { kept = before.kept; opened = take (length before.opened - 1) before.opened }
 
 -- ---- the lines
 
-abbrev pub word_faulty : ℕ → Result (List TextWord) WordFault → Result (List TextWord) Fault
-word_faulty number (Ok ws) = Ok ws
-word_faulty number (Err f) = Err (fault_in number f.column (cause.Word f.cause))
+abbrev pub quote_faulty : ℕ → Result (List TextWord) ℕ → Result (List TextWord) Fault
+quote_faulty number (Ok ws) = Ok ws
+quote_faulty number (Err column) = Err (fault_in number column cause.OpenQuote)
 
 -- a byte with which a character begins
 abbrev pub begins_character : ℕ → Bool
@@ -84,7 +82,7 @@ column_of_text bytes = count_by begins_character (take (utf8_valid_len bytes) by
 
 -- the words of a line of these bytes, or what is wrong with it as a text
 abbrev pub line_words : ℕ → List ℕ → Result (List TextWord) Fault
-line_words number bytes = if is_utf8 bytes then word_faulty number (words_of (chars bytes)) else Err (fault_in number (column_of_text bytes) cause.NotText)
+line_words number bytes = if is_utf8 bytes then quote_faulty number (words_of (chars bytes)) else Err (fault_in number (column_of_text bytes) cause.NotText)
 
 abbrev pub onto_lines : List WordLine → Result (List WordLine) Fault → Result (List WordLine) Fault
 onto_lines ls (Ok more) = Ok (ls ++ more)

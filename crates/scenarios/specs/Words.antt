@@ -1,20 +1,19 @@
 -- The words of a line.
-use Rattle.std.specs.Prelude.{◌≡◌, ℕ, ◌+◌, Bool, true, false, ◌&&◌, not, ◌==◌, List, [], ◌∷◌, map, filter, take_while, encode_utf8_all, Option, Some, None, Result, Ok, Err, if◌then◌else◌}
+use Rattle.std.specs.Prelude.{◌≡◌, ℕ, ◌+◌, Bool, true, false, ◌&&◌, not, ◌==◌, List, [], ◌∷◌, length, map, filter, take_while, encode_utf8_all, Option, Some, None, Result, Ok, Err, if◌then◌else◌}
 use Rattle.std.specs.List.{slice_split, list_any}
 use Rattle.scripts.specs.Words.{is_blank}
 use Rattle.scenarios.specs.declared.pieces.Kind.TheVariants as kind
-use Rattle.scenarios.specs.declared.words.WordCause.{WordCause}
-use Rattle.scenarios.specs.declared.words.WordCause.TheVariants as cause
 use Rattle.scenarios.specs.declared.words.WordError.{WordError}
 use Rattle.scenarios.specs.declared.words.WordError.TheVariants as error
-use Rattle.scenarios.specs.declared.words.WordFault.{WordFault}
 use Rattle.scenarios.specs.Pieces.{TextPiece, is_brace, pieces_of}
 
--- a word: the column of its first character, from 1; whether it has quotes; what it is made of
+-- a word: the columns of its first character and right after its last one, from 1; how it is written, with quotes and holes; whether it has quotes; and what it is made of, unless a brace belongs to no `{NAME}`
 pub record TextWord : Type 0 where
   pub column : ℕ
+  pub end : ℕ
+  pub source : List ℕ
   pub quoted : Bool
-  pub pieces : List TextPiece
+  pub pieces : Option (List TextPiece)
 
 -- a character of a line, with its column, and whether it is between quotes
 pub record Mark : Type 0 where
@@ -72,42 +71,49 @@ has_brace part = list_any (λ m. not m.inside && is_brace m.character) part
 abbrev pub text_of : List Mark → List ℕ
 text_of part = encode_utf8_all (filter (λ c. not (is_quote c)) (map (λ m. m.character) part))
 
-abbrev pub fault_at : ℕ → WordCause → Result TextWord WordFault
-fault_at column c = Err (record { column = column; cause = c })
+-- the bytes of a part as it is written
+abbrev pub source_of : List Mark → List ℕ
+source_of part = encode_utf8_all (map (λ m. m.character) part)
 
-abbrev pub bare_word : ℕ → Option (List TextPiece) → Result TextWord WordFault
-bare_word column None = fault_at column cause.Braces
-bare_word column (Some pieces) = Ok (record { column = column; quoted = false; pieces = pieces })
+-- what a word is made of that has quotes or not, and outside of them a brace or not; it has this text without its quotes
+abbrev pub pieces_in : Bool → Bool → List ℕ → Option (List TextPiece)
+pieces_in true true text = None
+pieces_in true false text = Some (record { kind = kind.Text; text = text } ∷ [])
+pieces_in false braces text = pieces_of text
 
--- a word of this column, with quotes or without, with a brace outside of them or without, and with this text
-abbrev pub closed_word : ℕ → Bool → Bool → List ℕ → Result TextWord WordFault
-closed_word column true true text = fault_at column cause.BraceBesideQuotes
-closed_word column true false text = Ok (record { column = column; quoted = true; pieces = record { kind = kind.Text; text = text } ∷ [] })
-closed_word column false braces text = bare_word column (pieces_of text)
+-- the word of a part whose quotes are closed; it ends as many columns behind its first one as the part has characters
+abbrev pub closed_word : List Mark → TextWord
+closed_word part = record {
+  column = column_of part;
+  end = column_of part + length part;
+  source = source_of part;
+  quoted = is_quoted part;
+  pieces = pieces_in (is_quoted part) (has_brace part) (text_of part);
+}
 
--- the word of a part, or what is wrong with it
-abbrev pub word_of : List Mark → Result TextWord WordFault
-word_of part = if open_behind false part then fault_at (column_of part) cause.OpenQuote else closed_word (column_of part) (is_quoted part) (has_brace part) (text_of part)
+-- the word of a part, or its column, if a quote in it is open
+abbrev pub word_of : List Mark → Result TextWord ℕ
+word_of part = if open_behind false part then Err (column_of part) else Ok (closed_word part)
 
-abbrev pub before_words : TextWord → Result (List TextWord) WordFault → Result (List TextWord) WordFault
+abbrev pub before_words : TextWord → Result (List TextWord) ℕ → Result (List TextWord) ℕ
 before_words w (Ok ws) = Ok (w ∷ ws)
-before_words w (Err e) = Err e
+before_words w (Err column) = Err column
 
-abbrev pub first_word : Result TextWord WordFault → Result (List TextWord) WordFault → Result (List TextWord) WordFault
+abbrev pub first_word : Result TextWord ℕ → Result (List TextWord) ℕ → Result (List TextWord) ℕ
 first_word (Ok w) more = before_words w more
-first_word (Err e) more = Err e
+first_word (Err column) more = Err column
 
--- the words of parts, or the first fault
-abbrev pub words_in : List (List Mark) → Result (List TextWord) WordFault
+-- the words of parts, or the column of the first with an open quote
+abbrev pub words_in : List (List Mark) → Result (List TextWord) ℕ
 words_in [] = Ok []
 words_in (part ∷ parts) = first_word (word_of part) (words_in parts)
 
--- the words of a line of these characters, or the first fault
-abbrev pub words_of : List ℕ → Result (List TextWord) WordFault
+-- the words of a line of these characters, or the column of the one with an open quote
+abbrev pub words_of : List ℕ → Result (List TextWord) ℕ
 words_of line = words_in (parts_of line)
 
 -- a function returned the expected, unless memory ran out
-abbrev pub Gives : {T : Type 0} {U : Type 0} → (T → U) → Result T WordError → Result U WordFault → Type 0
+abbrev pub Gives : {T : Type 0} {U : Type 0} → (T → U) → Result T WordError → Result U ℕ → Type 0
 Gives shown (Ok x) expected = expected ≡ Ok (shown x)
 Gives shown (Err error.Memory) expected = Unit {0}
-Gives shown (Err (error.Fault f)) expected = expected ≡ Err f
+Gives shown (Err (error.OpenQuote column)) expected = expected ≡ Err column

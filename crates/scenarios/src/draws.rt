@@ -26,23 +26,3 @@ pub fn draw(seed: u32, index: u32, from: u32, to: u32) -> u32
     let pages = u64::from(to - from);
     from + ((upper * pages) >> 32) as u32
 }
-
-#[cfg(test)]
-mod tests {
-    use super::*;
-    use std::process::Abort;
-
-    fn first_four(rt: &impl Abort, seed: u32, pages: [u32; 4]) {
-        assert_eq!(rt; draw(seed, 1, 0, 1000), pages[0]);
-        assert_eq!(rt; draw(seed, 2, 0, 1000), pages[1]);
-        assert_eq!(rt; draw(seed, 3, 0, 1000), pages[2]);
-        assert_eq!(rt; draw(seed, 4, 0, 1000), pages[3]);
-    }
-
-    #[test]
-    fn three_seeds_of_the_language(rt: HostRuntime) {
-        first_four(&rt, 0, [883, 431, 26, 970]);
-        first_four(&rt, 1, [566, 745, 971, 444]);
-        first_four(&rt, 7, [389, 16, 900, 582]);
-    }
-}

@@ -3,7 +3,6 @@
 ghost use Rattle.std.specs.Prelude.{◌≡◌};
 ghost use Rattle.scenarios.specs.declared.fault.ReadError.TheVariants.{Memory};
 
-use crate::words::WordCause;
 use std::alloc::{AllocError, AllocFailed};
 use std::fmt;
 use thiserror::Error;
@@ -13,10 +12,8 @@ use thiserror::Error;
 pub enum Cause {
     /// The line is not UTF-8.
     NotText,
-    /// A word is not written as one.
-    Word(WordCause),
-    /// A line of the header is below one that is not of the header.
-    HeaderBelow,
+    /// A quote has no second one in its line.
+    OpenQuote,
     /// An `end` while no block is open.
     EndAlone,
     /// A word follows `end`.
@@ -35,12 +32,7 @@ impl fmt::Display for Cause {
     fn fmt<W: fmt::Write>(&self, f: &mut fmt::Formatter<W>) -> fmt::Result {
         f.write_str(match self {
             Cause::NotText => "the line is not UTF-8; save the file as UTF-8",
-            Cause::Word(WordCause::OpenQuote) =>
-                "a quote is not closed; write the second quote on this line",
-            Cause::Word(WordCause::Braces) => "braces without a name between them; write {NAME}",
-            Cause::Word(WordCause::BraceBesideQuotes) =>
-                "braces in a word with quotes; write the word without quotes",
-            Cause::HeaderBelow => "a line of the header below other lines; move it to the top",
+            Cause::OpenQuote => "a quote is not closed; write the second quote on this line",
             Cause::EndAlone => "no block is open here; remove this \"end\"",
             Cause::BehindEnd => "nothing may follow \"end\"; remove this word",
             Cause::NoEnd => "the block has no end; write \"end\" below its last line",

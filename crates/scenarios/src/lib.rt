@@ -14,7 +14,5 @@ pub mod pieces;
 pub mod scenario;
 pub mod size_faults;
 pub mod sizes;
-#[cfg(test)]
-mod tests;
 pub mod unknown;
 pub mod words;

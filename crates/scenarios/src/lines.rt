@@ -2,7 +2,7 @@
 
 ghost use Rattle.std.specs.Prelude.{◌≡◌};
 ghost use Rattle.std.specs.Option.{option_map};
-ghost use Rattle.scenarios.specs.Lines.{literal, plain_text, is_header_word, kind_of_text, kind_of, text_line};
+ghost use Rattle.scenarios.specs.Lines.{literal, plain_text, is_header_word, kind_of_text, kind_of, opens_block, text_line};
 
 use crate::pieces::{Kind, Piece};
 use crate::words::Word;
@@ -25,6 +25,18 @@ pub enum LineKind {
     Other,
 }
 
+impl LineKind {
+    /// Whether the lines after it, up to their `end`, form a block.
+    pub fn opens_block(self) -> bool
+        ensures { result ≡ opens_block self }
+    {
+        match self {
+            LineKind::Repeat | LineKind::Together => true,
+            LineKind::Header | LineKind::Let | LineKind::End | LineKind::Other => false,
+        }
+    }
+}
+
 fn plain_text(piece: &Piece) -> Option<&str>
     ensures { option_map (λ text. text.now) result ≡ plain_text piece.now.kind piece.now.text }
 {
@@ -42,7 +54,7 @@ pub fn literal(word: &Word) -> Option<&str>
         return None;
     }
     match word.pieces() {
-        [piece] => plain_text(piece),
+        Some([piece]) => plain_text(piece),
         _ => None,
     }
 }

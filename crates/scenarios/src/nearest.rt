@@ -65,23 +65,3 @@ pub fn nearest(alloc: Global, word: &str, known: &[&str]) -> Result<Option<usize
         Some((place, _)) => Ok(Some(place)),
     }
 }
-
-#[cfg(test)]
-mod tests {
-    use super::*;
-    use std::test::Fail;
-
-    #[test]
-    fn swapped_and_missing_letters(rt: HostRuntime) -> Result<(), Fail> {
-        let alloc = rt.alloc();
-        let known = ["group", "set", "reclaim", "read", "free"];
-        assert_eq!(rt; nearest(alloc, "gruop", &known)?, Some(0));
-        assert_eq!(rt; nearest(alloc, "raed", &known)?, Some(3));
-        assert_eq!(rt; nearest(alloc, "reclam", &known)?, Some(2));
-        assert_eq!(rt; nearest(alloc, "frea", &known)?, Some(4));
-        assert_eq!(rt; nearest(alloc, "sat", &known)?, Some(1));
-        assert_eq!(rt; nearest(alloc, "it", &known)?, None);
-        assert_eq!(rt; nearest(alloc, "rmdir", &known)?, None);
-        Ok(())
-    }
-}

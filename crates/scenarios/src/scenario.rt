@@ -66,10 +66,10 @@ fn line_words(alloc: Global, number: usize, bytes: &[u8]) -> Result<Vec<Word>, R
     match words_of(alloc, text) {
         Ok(words) => Ok(words),
         Err(WordError::Memory) => Err(ReadError::Memory),
-        Err(WordError::Fault(fault)) => Err(ReadError::Faulty(Fault {
+        Err(WordError::OpenQuote(column)) => Err(ReadError::Faulty(Fault {
             line: number,
-            column: fault.column,
-            cause: Cause::Word(fault.cause),
+            column,
+            cause: Cause::OpenQuote,
         })),
     }
 }
@@ -107,8 +107,6 @@ fn end_fault(number: usize, opened: &[Opened], words: &[Word]) -> Option<Fault>
 /// What has been read of a scenario.
 #[derive(Drop)]
 struct Reading {
-    /// A line came that is not a header line.
-    body: bool,
     lines: Vec<Line>,
     /// The blocks that are not ended, the outermost first.
     opened: Vec<Opened>,
@@ -120,7 +118,6 @@ impl Reading {
         ensures before { before_of result ≡ at_start }
     {
         Reading {
-            body: false,
             lines: Vec::new(alloc),
             opened: Vec::new(alloc),
         }
@@ -131,19 +128,12 @@ impl Reading {
         ensures { result ≡ place_fault number (before_of self.now) (kind_of words.now) words.now }
     {
         match kind_of(words) {
-            LineKind::Header => {
-                if self.body {
-                    Some(Fault {
-                        line: number,
-                        column: first_column(words),
-                        cause: Cause::HeaderBelow,
-                    })
-                } else {
-                    None
-                }
-            }
             LineKind::End => end_fault(number, self.opened.as_slice(), words),
-            LineKind::Let | LineKind::Repeat | LineKind::Together | LineKind::Other => None,
+            LineKind::Header
+            | LineKind::Let
+            | LineKind::Repeat
+            | LineKind::Together
+            | LineKind::Other => None,
         }
     }
 
@@ -153,7 +143,6 @@ impl Reading {
         requires places { AreOpen (places_of self.old.opened.items) (length self.old.lines.items) }
         ensures lines { self.new.lines.items ≡ first_closed self.old.lines.items (places_of self.old.opened.items) }
         ensures opened { self.new.opened.items ≡ take (length self.old.opened.items - 1) self.old.opened.items }
-        ensures body { self.new.body ≡ self.old.body }
     {
         if let Some(block) = self.opened.pop() {
             let inside = self.lines.len() - (block.place + 1);
@@ -171,7 +160,6 @@ impl Reading {
             number,
             column: first_column(words.as_slice()),
         })?;
-        self.body = true;
         self.lines.push(Line::new(number, words))?;
         Ok(())
     }
@@ -186,11 +174,9 @@ impl Reading {
         match kind_of(words.as_slice()) {
             LineKind::End => self.end_block(),
             LineKind::Repeat | LineKind::Together => self.open_block(number, words)?,
-            LineKind::Header | LineKind::Let => self.lines.push(Line::new(number, words))?,
-            LineKind::Other => {
-                self.body = true;
-                self.lines.push(Line::new(number, words))?;
-            }
+            LineKind::Header | LineKind::Let | LineKind::Other => self
+                .lines
+                .push(Line::new(number, words))?,
         }
         Ok(())
     }
@@ -228,8 +214,11 @@ impl Reading {
     }
 }
 
-/// The scenario that a text writes, or the text's first fault: line, column and cause. A block without `end` is reported after all
-/// other faults, at the line that opens it. If several blocks have no `end`, it is the first of them.
+/// The scenario that a text writes, or the text's first fault: line, column and cause. A block without `end` is reported
+/// after all other faults, at the line that opens it. If several blocks have no `end`, it is the first of them.
+///
+/// Wrong braces of a word and a header line below other lines are no faults of the text. An expander reports them, but
+/// not in a block that is repeated 0 times.
 pub fn read(alloc: Global, text: &[u8]) -> Result<Scenario, ReadError>
     ensures { Reads (λ s. s.lines.items) result (scenario_of text.now) }
 {

@@ -1,41 +1,25 @@
 //! The words of a line.
 
-ghost use Rattle.std.specs.Prelude.{◌≡◌, ◌+◌, ◌<◌, ◌||◌, ◌&&◌, not, ◌==◌, ◌^◌, Ok, Err, OnOk};
+ghost use Rattle.std.specs.Prelude.{◌≡◌, ◌+◌, ◌<◌, ◌||◌, ◌&&◌, not, ◌==◌, ◌^◌, IfOk, OnOk};
+ghost use Rattle.std.specs.Option.{option_map};
 ghost use Rattle.std.specs.String.{string_bytes};
 ghost use Rattle.std.specs.Str.{chars};
 ghost use Rattle.scripts.specs.Words.{is_blank};
 ghost use Rattle.scenarios.specs.declared.words.WordError.TheVariants.{Memory};
 ghost use Rattle.scenarios.specs.Pieces.{is_brace};
-ghost use Rattle.scenarios.specs.Words.{TextWord, closed_word, words_of, Gives};
-ghost use Rattle.scenarios.specs.Reading.{part_read, line_read, longer, part_longer, with_character, part_ended, words_read, at_start};
+ghost use Rattle.scenarios.specs.Words.{pieces_in, words_of, Gives};
+ghost use Rattle.scenarios.specs.Reading.{part_read, line_read, longer, part_longer, with_character, word_read, part_ended, words_read, at_start};
 
 use crate::pieces::{Kind, Piece, pieces_of};
 use std::alloc::{AllocError, AllocFailed, Global};
 use std::marker::Model;
 
-/// What is wrong with a word, as it is written.
-#[derive(Clone, Copy, Debug, PartialEq, Eq)]
-pub enum WordCause {
-    /// A quote has no second one in its line.
-    OpenQuote,
-    /// A `{` has no `}`, or no name between them, or a `}` has no `{`.
-    Braces,
-    /// A brace is outside of the quotes of a word that has some.
-    BraceBesideQuotes,
-}
-
-/// A faulty word: the column of its first character, and what is wrong.
-#[derive(Clone, Copy, Debug, PartialEq, Eq)]
-pub struct WordFault {
-    pub column: usize,
-    pub cause: WordCause,
-}
-
 /// Why the words of a line could not be read.
 #[derive(Clone, Copy, Debug)]
 pub enum WordError {
     Memory,
-    Fault(WordFault),
+    /// In the word of this column a quote has no second one in its line.
+    OpenQuote(usize),
 }
 
 impl From<AllocError> for WordError {
@@ -58,16 +42,20 @@ impl<T: Drop> From<AllocFailed<T>> for WordError {
 #[derive(Drop)]
 pub struct Word {
     column: usize,
+    end: usize,
+    source: String,
     quoted: bool,
-    pieces: Vec<Piece>,
+    pieces: Option<Vec<Piece>>,
 }
 
 impl Model for Word {
+    ghost use Rattle.std.specs.Option.{option_map};
+    ghost use Rattle.std.specs.String.{string_bytes};
     ghost use Rattle.scenarios.specs.Words.{TextWord};
 
     ghost Value = { TextWord };
 
-    ghost view = { λ w. record { column = w.column; quoted = w.quoted; pieces = w.pieces.items } };
+    ghost view = { λ w. record { column = w.column; end = w.end; source = string_bytes w.source; quoted = w.quoted; pieces = option_map (λ ps. ps.items) w.pieces } };
 }
 
 impl Word {
@@ -78,6 +66,20 @@ impl Word {
         self.column
     }
 
+    /// The column right after its last character.
+    pub fn end(&self) -> usize
+        ensures { result ≡ self.now.end }
+    {
+        self.end
+    }
+
+    /// As it is written, with its quotes and holes.
+    pub fn source(&self) -> &str
+        ensures { result.now ≡ self.now.source }
+    {
+        self.source.as_str()
+    }
+
     /// Whether it has quotes, and so is a name and no word of the language.
     pub fn is_quoted(&self) -> bool
         ensures { result ≡ self.now.quoted }
@@ -85,11 +87,14 @@ impl Word {
         self.quoted
     }
 
-    /// What it is made of, in order.
-    pub fn pieces(&self) -> &[Piece]
-        ensures { result.now ≡ self.now.pieces }
+    /// What it is made of, in order, unless a brace in it belongs to no `{NAME}`.
+    pub fn pieces(&self) -> Option<&[Piece]>
+        ensures { option_map (λ pieces. pieces.now) result ≡ self.now.pieces }
     {
-        self.pieces.as_slice()
+        match &self.pieces {
+            None => None,
+            Some(pieces) => Some(pieces.as_slice()),
+        }
     }
 }
 
@@ -97,7 +102,9 @@ impl Word {
 #[derive(Drop)]
 struct Part {
     column: usize,
-    /// What is read of it, without quotes.
+    /// What is read of it, with its quotes.
+    source: String,
+    /// The same without quotes.
     text: String,
     quoted: bool,
     /// A brace came outside of quotes.
@@ -116,10 +123,29 @@ fn is_blank(character: char) -> bool
     character == ' ' || character == '\t'
 }
 
+/// What a word is made of that has quotes or not, and outside of them a brace or not.
+fn pieces_in(
+    alloc: Global,
+    quoted: bool,
+    braces: bool,
+    text: String,
+) -> Result<Option<Vec<Piece>>, AllocError>
+    ensures { IfOk result (λ pieces. option_map (λ ps. ps.items) pieces ≡ pieces_in quoted braces (string_bytes text)) }
+{
+    if !quoted {
+        return pieces_of(alloc, text.as_str());
+    }
+    if braces {
+        return Ok(None);
+    }
+    Ok(Some(vec![in alloc; Piece::new(Kind::Text, text)]?))
+}
+
 impl Part {
     fn add(&mut self, inside: bool, character: char) -> Result<(), AllocError>
         ensures { OnOk result (part_read self.new ≡ longer (part_read self.old) inside character) }
     {
+        self.source.push(character)?;
         if character == '"' {
             self.quoted = true;
             return Ok(());
@@ -130,41 +156,25 @@ impl Part {
         self.text.push(character)
     }
 
-    /// The word, if no quote is open.
-    fn into_word(self, alloc: Global) -> Result<Word, WordError>
-        ensures { Gives (λ w. w) result (closed_word self.column self.quoted self.braces (string_bytes self.text)) }
+    /// The word, which ends before this column.
+    fn into_word(self, alloc: Global, end: usize) -> Result<Word, AllocError>
+        ensures { IfOk result (λ word. word ≡ word_read (part_read self) end) }
     {
         let Part {
             column,
+            source,
             text,
             quoted,
             braces,
         } = self;
-        if quoted {
-            if braces {
-                return Err(WordError::Fault(WordFault {
-                    column,
-                    cause: WordCause::BraceBesideQuotes,
-                }));
-            }
-            let pieces = vec![in alloc; Piece::new(Kind::Text, text)]?;
-            return Ok(Word {
-                column,
-                quoted,
-                pieces,
-            });
-        }
-        match pieces_of(alloc, text.as_str())? {
-            None => Err(WordError::Fault(WordFault {
-                column,
-                cause: WordCause::Braces,
-            })),
-            Some(pieces) => Ok(Word {
-                column,
-                quoted,
-                pieces,
-            }),
-        }
+        let pieces = pieces_in(alloc, quoted, braces, text)?;
+        Ok(Word {
+            column,
+            end,
+            source,
+            quoted,
+            pieces,
+        })
     }
 }
 
@@ -201,13 +211,14 @@ impl Reader {
     }
 
     /// Nothing goes on the last word.
-    fn end_part(&mut self, alloc: Global) -> Result<(), WordError>
-        ensures { Gives (λ _. line_read self.new) result (part_ended (line_read self.old)) }
+    fn end_part(&mut self, alloc: Global) -> Result<(), AllocError>
+        requires { (line_read self.old).before + 1 < 2 ^ 64 }
+        ensures { OnOk result (line_read self.new ≡ part_ended (line_read self.old)) }
     {
         match self.part.take() {
             None => Ok(()),
             Some(part) => {
-                let word = part.into_word(alloc)?;
+                let word = part.into_word(alloc, self.before + 1)?;
                 self.words.push(word)?;
                 Ok(())
             }
@@ -223,6 +234,7 @@ impl Reader {
             Some(part) => part,
             None => Part {
                 column: self.before + 1,
+                source: String::new(alloc),
                 text: String::new(alloc),
                 quoted: false,
                 braces: false,
@@ -237,9 +249,9 @@ impl Reader {
     }
 
     /// A character that begins no comment.
-    fn add(&mut self, alloc: Global, character: char) -> Result<(), WordError>
+    fn add(&mut self, alloc: Global, character: char) -> Result<(), AllocError>
         requires { (line_read self.old).before + 1 < 2 ^ 64 }
-        ensures { Gives (λ _. line_read self.new) result (with_character (line_read self.old) character) }
+        ensures { OnOk result (line_read self.new ≡ with_character (line_read self.old) character) }
     {
         if !self.inside && is_blank(character) {
             self.end_part(alloc)?;
@@ -252,15 +264,13 @@ impl Reader {
 
     /// The words, when the line ends.
     fn into_words(self, alloc: Global) -> Result<Vec<Word>, WordError>
+        requires { (line_read self).before + 1 < 2 ^ 64 }
         ensures { Gives (λ ws. ws.items) result (words_read (line_read self)) }
     {
         let mut reader = self;
         if reader.inside {
             if let Some(part) = &reader.part {
-                return Err(WordError::Fault(WordFault {
-                    column: part.column,
-                    cause: WordCause::OpenQuote,
-                }));
+                return Err(WordError::OpenQuote(part.column));
             }
         }
         reader.end_part(alloc)?;
@@ -269,7 +279,7 @@ impl Reader {
     }
 }
 
-/// The words of a line, or its first faulty one.
+/// The words of a line, if each quote has its second one.
 pub fn words_of(alloc: Global, line: &str) -> Result<Vec<Word>, WordError>
     ensures { Gives (λ ws. ws.items) result (words_of (chars line.now)) }
 {

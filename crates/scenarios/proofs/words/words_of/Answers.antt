@@ -1,10 +1,8 @@
-use Rattle.std.proofs.Common.{length, Vec, Global, sym, ◌∙◌, chars}
-use Rattle.scenarios.specs.declared.words.Word.{Word}
-use Rattle.std.proofs.lemmas.Result.{err_from_is_err_and}
+use Rattle.std.proofs.Common.{length, sym, ◌∙◌, chars}
 use Rattle.std.proofs.lemmas.Str.{IsUtf8-past_char, chars_past_char}
 use Rattle.std.proofs.StrCases.{chars_of_empty}
 use Rattle.scenarios.specs.Reading.{line_read}
-use Rattle.scenarios.proofs.WordLemmas.{comment_ends, read_goes_on, rest_ends, fails_so, counted, gives_same}
+use Rattle.scenarios.proofs.WordLemmas.{comment_ends, read_goes_on, rest_ends, counted, gives_same}
 use Rattle.scenarios.proofs.words.words_of.Goals as goal
 
 pub returns-then-ends_at : goal.returns-then-ends_at
@@ -21,13 +19,6 @@ loop-character-preserved c =
       counted (line_read c.loop-character.reader) (line_read c.add.new.self) c.in-Some.character (length c.args.line.now) _ _ c.in_ok-add.ensures c.in-Some.ensures.steps.0 held.1,
       read_goes_on (line_read c.loop-character.reader) (line_read c.add.new.self) c.in-Some.character _ _ (chars c.args.line.now) step (sym c.ends_at.ensures ∙ c.if-ends_at.false) c.in_ok-add.ensures held.2,
     )
-
-pub returns-in_err-add : goal.returns-in_err-add
-returns-in_err-add c =
-    let held = c.loop-character.invariant in
-    let step = chars_past_char _ _ c.in-Some.character held.0 c.in-Some.ensures.steps.0 in
-    let p = err_from_is_err_and c.from_residual.result c.from_residual.ensures.1 in
-    rw (p.1, p.2) (fails_so {T = Unit {0}} (λ _. line_read c.add.new.self) c.in_err-add.field-0.0 (line_read c.loop-character.reader) c.in-Some.character _ _ (chars c.args.line.now) {V = Vec Word Global} (λ ws. ws.items) step (sym c.ends_at.ensures ∙ c.if-ends_at.false) held.2 c.in_err-add.ensures)
 
 pub returns : goal.returns
 returns c = gives_same _ c.into_words-2.result _ _ (rest_ends (line_read c.loop-character.reader) _ (chars c.args.line.now) (chars_of_empty _ c.in-None.ensures.steps.0.0) c.loop-character.invariant.2) c.into_words-2.ensures

@@ -1,0 +1,113 @@
+//! Scales, and the numbers along them.
+
+ghost use Rattle.std.specs.Prelude.{◌≡◌, ◌*◌};
+ghost use Rattle.machine.specs.Access.{page_size};
+
+use machine::bytes::PAGE_BYTES;
+use std::alloc::{AllocError, Global};
+use std::fmt;
+use std::fmt::{Formatter, Write};
+
+/// The places of values on a line: the least at 0, and the greatest at its end.
+#[derive(Clone, Copy)]
+pub struct Scale {
+    pub least: u64,
+    pub greatest: u64,
+    /// The length of the line.
+    pub length: u64,
+}
+
+impl Scale {
+    /// The place of the value. A value beyond an end is at that end.
+    pub fn place(self, value: u64) -> u64 {
+        let above = value.saturating_sub(self.least);
+        let whole = self.greatest.saturating_sub(self.least).max(1);
+        let place = u128::from(above.min(whole)).saturating_mul(u128::from(self.length));
+        u64::try_from(place.checked_div(u128::from(whole)).unwrap_or(0)).unwrap_or(self.length)
+    }
+}
+
+/// The most marks along a line.
+const MOST_MARKS: u64 = 8;
+
+/// The distance between round numbers of lines. At most eight of them are below this one.
+fn decimal_step(greatest: u64) -> u64 {
+    let mut step = 1u64;
+    for turn in 0..60u32 {
+        if greatest.checked_div(step).unwrap_or(0) <= MOST_MARKS {
+            break;
+        }
+        // 1, 2, 5, 10, 20, 50, and so on.
+        step = if turn % 3 == 1 {
+            step.saturating_mul(5).checked_div(2).unwrap_or(step)
+        } else {
+            step.saturating_mul(2)
+        };
+    }
+    step
+}
+
+/// The same for numbers of pages: the powers of two.
+fn binary_step(greatest: u64) -> u64 {
+    let mut step = 1u64;
+    for _turn in 0..60u32 {
+        if greatest.checked_div(step).unwrap_or(0) <= MOST_MARKS {
+            break;
+        }
+        step = step.saturating_mul(2);
+    }
+    step
+}
+
+fn marks(alloc: Global, scale: Scale, step: u64) -> Result<Vec<u64>, AllocError> {
+    let mut marks = Vec::new(alloc);
+    let mut at = 0u64;
+    for _mark in 0..=MOST_MARKS {
+        if at >= scale.least && at <= scale.greatest {
+            marks.push(at)?;
+        }
+        at = at.saturating_add(step);
+    }
+    Ok(marks)
+}
+
+/// Round numbers of lines along a scale.
+pub fn line_marks(alloc: Global, scale: Scale) -> Result<Vec<u64>, AllocError> {
+    marks(alloc, scale, decimal_step(scale.greatest))
+}
+
+/// Round numbers of pages along a scale.
+pub fn page_marks(alloc: Global, scale: Scale) -> Result<Vec<u64>, AllocError> {
+    marks(alloc, scale, binary_step(scale.greatest))
+}
+
+/// This number of pages, in bytes.
+pub fn bytes_of(pages: u64) -> u128
+    ensures { result ≡ pages * page_size }
+{
+    u128::from(pages) * u128::from(PAGE_BYTES as u64)
+}
+
+/// This number of pages in bytes as people write them: in the greatest of the units G, M and K that leaves no
+/// remainder.
+#[derive(Clone, Copy)]
+pub struct Size(pub u64);
+
+impl fmt::Display for Size {
+    fn fmt<W: Write>(&self, f: &mut Formatter<W>) -> fmt::Result {
+        let bytes = bytes_of(self.0);
+        for (unit, name) in [(1u128 << 30, 'G'), (1u128 << 20, 'M'), (1u128 << 10, 'K')] {
+            if bytes >= unit && bytes % unit == 0 {
+                return write!(f, "{}{name}", bytes / unit);
+            }
+        }
+        write!(f, "{bytes}")
+    }
+}
+
+/// Tenths of a pixel, as pixels.
+pub fn pixels(alloc: Global, tenths: u64) -> Result<String, AllocError> {
+    let whole = tenths / 10;
+    let rest = tenths % 10;
+    format!(in alloc; "{whole}.{rest}")
+}

@@ -1,0 +1,111 @@
+//! Numbers and sizes of scenarios, as people read them.
+#![tactic(auto)]
+
+use scenario_words::amount::PageSize;
+use std::alloc::AllocError;
+
+const SCALES: [u64; 7] = [
+    1_000_000_000_000_000_000,
+    1_000_000_000_000_000,
+    1_000_000_000_000,
+    1_000_000_000,
+    1_000_000,
+    1_000,
+    1,
+];
+
+/// Bytes of the smallest page whose sizes are shown in MiB.
+const MIB_PAGE: u64 = 65_536;
+
+/// Adds a number, with a comma before each three digits.
+pub fn add_number(text: &mut String, number: u64) -> Result<(), AllocError> {
+    let mut begun = false;
+    for scale in SCALES {
+        let part = number.checked_div(scale).unwrap_or(0) % 1_000;
+        if begun {
+            write!(text, ",{part:03}")?;
+        } else if part > 0 || scale == 1 {
+            write!(text, "{part}")?;
+            begun = true;
+        }
+    }
+    Ok(())
+}
+
+/// The unit of sizes.
+#[derive(Clone, Copy)]
+pub enum Unit {
+    /// 2^20 bytes
+    Mib,
+    /// 2^10 bytes
+    Kib,
+}
+
+impl Unit {
+    /// The unit for pages of this size: MiB if they have 64K or more, else KiB.
+    pub fn of(page: PageSize) -> Unit {
+        if page.bytes >= MIB_PAGE {
+            Unit::Mib
+        } else {
+            Unit::Kib
+        }
+    }
+
+    /// Its name, as sizes have it.
+    pub fn name(self) -> &'static str {
+        match self {
+            Unit::Mib => "MiB",
+            Unit::Kib => "KiB",
+        }
+    }
+}
+
+/// Tenths of a MiB, rounded to the nearest. A tie is rounded to the even one.
+fn tenths(bytes: u64) -> u64 {
+    let eighths = bytes / MIB_PAGE * 5;
+    let whole = eighths / 8;
+    let rest = eighths % 8;
+    if rest > 4 || (rest == 4 && whole % 2 == 1) {
+        whole + 1
+    } else {
+        whole
+    }
+}
+
+/// Bytes of so many pages.
+pub fn bytes_of(page: PageSize, pages: u64) -> u64 {
+    pages.saturating_mul(page.bytes)
+}
+
+/// Adds the size of so many pages, without the unit.
+pub fn add_size(text: &mut String, page: PageSize, pages: u64) -> Result<(), AllocError> {
+    let bytes = bytes_of(page, pages);
+    match Unit::of(page) {
+        Unit::Kib => add_number(text, bytes / 1_024),
+        Unit::Mib => {
+            let tenths = tenths(bytes);
+            add_number(text, tenths / 10)?;
+            write!(text, ".{}", tenths % 10)
+        }
+    }
+}
+
+/// Adds the size of so many pages, with the unit.
+pub fn add_size_in_unit(text: &mut String, page: PageSize, pages: u64) -> Result<(), AllocError> {
+    add_size(text, page, pages)?;
+    write!(text, " {}", Unit::of(page).name())
+}
+
+/// Adds spaces up to a width, after a text with so many characters.
+pub fn add_gap(text: &mut String, width: usize, characters: usize) -> Result<(), AllocError> {
+    for _ in characters..width {
+        text.push(' ')?;
+    }
+    Ok(())
+}
+
+/// Adds a cell at the right of a column of this width.
+pub fn add_cell(text: &mut String, width: usize, cell: &str) -> Result<(), AllocError> {
+    add_gap(text, width, cell.chars().count())?;
+    text.push_str(cell)
+}

@@ -1,0 +1,6 @@
+mod LineLemmas
+mod MarkLemmas
+mod OpeningLemmas
+mod RoundingLemmas
+mod SceneLemmas
+mod TaskLemmas

@@ -1,0 +1,12 @@
+pub mod Access
+pub mod Acts
+pub mod Awaited
+pub mod HeaderLines
+pub mod Joined
+pub mod LineLists
+pub mod Marks
+pub mod Notes
+pub mod Pages
+pub mod Rounding
+pub mod Scene
+pub mod Tasks

@@ -1,0 +1,6 @@
+mod BracketLemmas
+mod FillLemmas
+mod GiveLemmas
+mod HeaderLemmas
+mod NameLemmas
+mod PathLemmas

@@ -1,0 +1,9 @@
+pub mod Amounts
+pub mod BracketReading
+pub mod Faults
+pub mod Header
+pub mod Names
+pub mod Paths
+pub mod Raw
+pub mod TaskNames
+pub mod Words

@@ -1,0 +1,261 @@
+//! What is printed of an entry.
+
+use crate::asked::Prints;
+use crate::refusals::{add_words, are_expected};
+use crate::run::{Course, Run, say};
+use crate::said::{Kill, Said};
+use crate::telling::{add_line, add_reason, add_task, add_tasks, add_true_path};
+use block_store::MemDevice;
+use driver::{Stepper, Word};
+use scenario_faults::Problem;
+use scenario_lines::burst::Condition;
+use scenario_pictures::{add_place, add_rounds};
+use std::alloc::AllocError;
+use std::io::Write;
+
+/// The most kills that the report prints.
+pub const MOST_KILLS_TOLD: u64 = 20;
+
+impl<'p> Run<'p> {
+    /// Begins a line with the place of the last item.
+    pub fn place(&self) -> Result<String, AllocError> {
+        let mut text = String::new(self.alloc);
+        let line = self.expansion.line();
+        let rounds = self.expansion.rounds();
+        if self.asked.prints != Prints::Unmet {
+            add_place(&mut text, line, rounds)?;
+            return Ok(text);
+        }
+        write!(text, "{}:{line}:", self.asked.name)?;
+        if !rounds.is_empty() {
+            text.push_str(" round ")?;
+            add_rounds(&mut text, rounds)?;
+        }
+        Ok(text)
+    }
+
+    /// The words of the last entry. `task` is the task of an entry that is a task's.
+    pub fn words(&self, task: Option<u32>) -> Result<String, AllocError> {
+        let words = self.expansion.words()?;
+        let mut text = String::new(self.alloc);
+        add_line(&mut text, self.expansion.scene(), words.as_str(), task)?;
+        Ok(text)
+    }
+
+    /// Begins a line with the place and the words of the last entry.
+    fn place_and_words(&self, task: Option<u32>) -> Result<String, AllocError> {
+        let mut text = self.place()?;
+        let words = self.words(task)?;
+        write!(text, "  {words}: ")?;
+        Ok(text)
+    }
+
+    /// The tasks that died with a kill, the victim first. They are noted.
+    fn bury(&mut self, place: usize, kill: Kill) -> Result<Vec<u32>, AllocError> {
+        let mut victims = vec![in self.alloc; kill.victim]?;
+        if kill.is_group {
+            if let Some(doomed) = self.watch.kill_at(place) {
+                if let Some(group) = doomed.group {
+                    let path = self.watch.path_at(group);
+                    let others = self.tasks.others_in(self.alloc, path, kill.victim)?;
+                    for task in others {
+                        victims.push(task)?;
+                    }
+                }
+            }
+        }
+        for task in victims.as_slice() {
+            self.tasks.kill(*task)?;
+        }
+        Ok(victims)
+    }
+
+    /// Adds who died with the victim.
+    fn add_others(
+        &self,
+        text: &mut String,
+        place: usize,
+        victims: &[u32],
+    ) -> Result<(), AllocError> {
+        let others = victims.get(1..).unwrap_or(&[]);
+        if others.is_empty() {
+            return Ok(());
+        }
+        let Some(doomed) = self.watch.kill_at(place) else {
+            return Ok(());
+        };
+        let Some(group) = doomed.group else {
+            return Ok(());
+        };
+        text.push_str(", and with it all of ")?;
+        add_true_path(text, self.expansion.names(), self.watch.path_at(group))?;
+        text.push_str(": ")?;
+        add_tasks(text, self.expansion.scene(), others)
+    }
+
+    /// The line of a kill.
+    fn kill_text(
+        &self,
+        place: usize,
+        victims: &[u32],
+        task: Option<u32>,
+    ) -> Result<String, AllocError> {
+        let scene = self.expansion.scene();
+        let mut text = self.place_and_words(task)?;
+        if let Some(victim) = victims.first() {
+            add_task(&mut text, scene, *victim)?;
+        }
+        text.push_str(" is killed")?;
+        self.add_others(&mut text, place, victims)?;
+        if let Some(doomed) = self.watch.kill_at(place) {
+            text.push_str(" (")?;
+            add_reason(
+                &mut text,
+                scene,
+                self.expansion.names(),
+                scene.page(),
+                &self.watch,
+                doomed,
+            )?;
+            text.push(')')?;
+        }
+        text.push('\n')?;
+        Ok(text)
+    }
+
+    /// Tells the kills of an entry, and counts the lines after a task's death.
+    fn tell_kills<O: Write>(
+        &mut self,
+        said: &Said,
+        task: Option<u32>,
+        out: &mut O,
+    ) -> Result<(), Problem> {
+        for late in said.late.as_slice() {
+            self.tasks.count_late(*late);
+        }
+        for (place, kill) in said.kills.iter().enumerate() {
+            let victims = self.bury(place, *kill)?;
+            self.kills = self.kills.saturating_add(1);
+            self.tell_kill(place, victims.as_slice(), task, out)?;
+        }
+        Ok(())
+    }
+
+    /// Prints a kill, and notes it for the next row.
+    fn tell_kill<O: Write>(
+        &mut self,
+        place: usize,
+        victims: &[u32],
+        task: Option<u32>,
+        out: &mut O,
+    ) -> Result<(), Problem> {
+        match self.asked.prints {
+            Prints::Report => {
+                if self.kills <= MOST_KILLS_TOLD {
+                    let text = self.kill_text(place, victims, task)?;
+                    say(out, text.as_str())?;
+                }
+                return Ok(());
+            }
+            Prints::Json => {
+                let bytes = self.kill_object(place, victims, task)?;
+                out.write_all(bytes.as_slice())?;
+            }
+            Prints::Unmet => return Ok(()),
+            Prints::Chart | Prints::Csv => {}
+        }
+        for victim in victims {
+            let mut name = String::new(self.alloc);
+            add_task(&mut name, self.expansion.scene(), *victim)?;
+            self.pace.add_death(name)?;
+        }
+        Ok(())
+    }
+
+    /// Tells that the last entry was refused, unless that is expected.
+    fn tell_refusal<O: Write>(
+        &mut self,
+        said: &Said,
+        task: Option<u32>,
+        out: &mut O,
+    ) -> Result<Course, Problem> {
+        let words = said.refused.as_slice();
+        if words.is_empty() {
+            return Ok(Course::GoesOn);
+        }
+        let awaited = self.expansion.awaited()?;
+        let line = self.expansion.line();
+        let rounds = self.expansion.rounds();
+        self.refusals
+            .add(self.alloc, words, line, rounds, awaited.as_slice())?;
+        let expected = are_expected(self.alloc, words, awaited.as_slice())?;
+        self.print_refusal(words, task, expected, out)?;
+        if expected {
+            return Ok(Course::GoesOn);
+        }
+        self.well = false;
+        if self.asked.go_on {
+            Ok(Course::GoesOn)
+        } else {
+            Ok(Course::Ends)
+        }
+    }
+
+    /// Prints a refusal. The report has an expected one at the line that expects it.
+    fn print_refusal<O: Write>(
+        &self,
+        words: &[Word],
+        task: Option<u32>,
+        expected: bool,
+        out: &mut O,
+    ) -> Result<(), Problem> {
+        match self.asked.prints {
+            Prints::Report | Prints::Unmet if !expected => {
+                let mut text = self.place_and_words(task)?;
+                text.push_str("refused with ")?;
+                add_words(&mut text, words)?;
+                if let (Some((actor, command)), [word]) = (&self.done, words) {
+                    self.add_why(&mut text, *actor, command, *word)?;
+                }
+                text.push('\n')?;
+                say(out, text.as_str())
+            }
+            Prints::Json => {
+                let bytes = self.refused_object(words, task, expected)?;
+                out.write_all(bytes.as_slice())?;
+                Ok(())
+            }
+            _ => Ok(()),
+        }
+    }
+
+    /// Tells what came of the last entry.
+    pub fn tell<O: Write>(&mut self, task: Option<u32>, out: &mut O) -> Result<Course, Problem> {
+        let said = self.said()?;
+        self.tell_kills(&said, task, out)?;
+        self.tell_refusal(&said, task, out)
+    }
+
+    /// Whether the condition of the open list with `until` holds.
+    fn is_reached(&self, stepper: &Stepper<MemDevice>) -> Result<bool, Problem> {
+        match self.expansion.condition()? {
+            None => Ok(false),
+            Some(Condition::Killed(task)) => Ok(self.tasks.is_dead(task)),
+            Some(Condition::Current { path, pages }) => {
+                let path = self.expansion.scene().script_path(&path)?;
+                Ok(match stepper.book().look(path.as_str()) {
+                    None => false,
+                    Some(look) => look.usage >= pages,
+                })
+            }
+        }
+    }
+
+    /// Cuts the open list with `until` if its condition holds.
+    pub fn cut(&mut self, stepper: &Stepper<MemDevice>) -> Result<(), Problem> {
+        if self.is_reached(stepper)? {
+            self.expansion.cut();
+        }
+        Ok(())
+    }
+}
