@@ -1,0 +1,20 @@
+//! All that can happen: every outcome of some commands at once, over every order of their turns.
+//!
+//! A script has three parts. The lines before its first `go` are the setup. Those after it are the work: each actor has
+//! its lines, in their order, and the turns of the actors can come in any order. Those after a second `go` are the looks,
+//! which are done when the work is over. [`explore_script`] runs the machine once for each order, and counts the outcomes.
+#![tactic(auto)]
+
+mod asked;
+mod fault;
+mod report;
+mod script;
+mod shown;
+mod trial;
+
+/// The most actors of a script that is explored.
+pub const MOST_ACTORS: usize = 1000;
+
+pub use asked::Asked;
+pub use fault::Fault;
+pub use report::{Verdict, explore_script};

@@ -1,0 +1,4 @@
+pub mod TableRows
+pub mod WorkLemmas
+pub mod CarriedLemmas
+pub mod ExploredLemmas

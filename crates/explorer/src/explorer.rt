@@ -1,0 +1,233 @@
+//! A machine that is run once for each order.
+
+ghost use Rattle.std.specs.Prelude.{◌≡◌, ◌<◌, ◌^◌, [], true, length, List, IfOk, OnOk};
+ghost use Rattle.orders.specs.Runs.{Run};
+ghost use Rattle.machine.specs.State.{is_config};
+ghost use Rattle.driver.specs.Schedule.{first_world, fits};
+ghost use Rattle.explorer.specs.Outcome.{disk_of};
+ghost use Rattle.explorer.specs.Explored.{Counts, Explored};
+ghost use Rattle.explorer.specs.Explorers.{Starts, LooksAt, IsAt, ready_now};
+
+use crate::copies::copy_of_config;
+use crate::outcome::outcome_of;
+use crate::parts::Parts;
+use crate::plan::{all_go_on, carry_out, ready_of, take_turn};
+use crate::table::Table;
+use block_store::MemDevice;
+use driver::Stepper;
+use files::blocks_for;
+use machine::command::{Reply, Step};
+use orders::Fault;
+use std::alloc::{AllocError, Global};
+use std::mem;
+use walks::{Machine, Walk, walk_all};
+
+/// A new run of the machine, before its first step.
+pub fn open_run(alloc: Global, parts: &Parts) -> Result<Stepper<MemDevice>, AllocError>
+    requires { is_config parts.now.config ≡ true }
+    ensures opens { IfOk result (λ run. run ≡ first_world parts.now.config (disk_of parts.now)) }
+    ensures sized { OnOk result (fits parts.now.config (disk_of parts.now) ≡ true) }
+{
+    let config = copy_of_config(alloc, &parts.config)?;
+    let Some(blocks) = blocks_for(&config) else {
+        unreachable!()
+    };
+    let device = MemDevice::new(alloc, blocks, &parts.read_faults, &parts.write_faults)?;
+    match Stepper::open(alloc, config, device) {
+        Ok(run) => Ok(run),
+        // Over a device that has the blocks, opening fails only if memory runs out.
+        Err(_) => Err(AllocError),
+    }
+}
+
+/// Ends a run, if there is one.
+pub fn close_run(run: Option<Stepper<MemDevice>>) {
+    match run {
+        None => {}
+        Some(run) => {
+            let _ = run.close();
+        }
+    }
+}
+
+/// The setup. Then each actor begins its first line.
+fn begin_run(
+    run: &mut Stepper<MemDevice>,
+    parts: &Parts,
+    begun: &mut Vec<usize>,
+    said: &mut Vec<Reply>,
+) -> Result<(), AllocError>
+    requires { length begun.old.items ≡ length parts.now.rows.items }
+    ensures starts { OnOk result (Starts parts.now run.old begun.new.items said.new.items run.new) }
+    ensures counted { length begun.new.items ≡ length begun.old.items }
+{
+    carry_out(run, &parts.setup, said)?;
+    said.clear();
+    begun.fill(0);
+    all_go_on(run, &parts.rows, begun, said)
+}
+
+/// Carries out the looks, and ends the run.
+fn look(run: Stepper<MemDevice>, looks: &[Step], looked: &mut Vec<Reply>) -> Result<(), AllocError>
+    ensures { OnOk result (LooksAt run looks.now looked.old.items looked.new.items) }
+{
+    let mut run = run;
+    let result = carry_out(&mut run, looks, looked);
+    let _ = run.close();
+    result
+}
+
+/// A machine that is run once for each order of its actors' turns. It counts the outcomes.
+///
+/// It must be spent, by [`Explorer::close`].
+#[must_use]
+struct Explorer<'p> {
+    alloc: Global,
+    parts: &'p Parts,
+    /// The current order's run.
+    run: Option<Stepper<MemDevice>>,
+    /// For each row, how many of its lines were begun.
+    begun: Vec<usize>,
+    /// What was answered in the work.
+    said: Vec<Reply>,
+    /// The actors that took the turns.
+    path: Vec<u32>,
+    table: Table,
+    /// The number of turns of the shortest order so far.
+    shortest: usize,
+    /// That of the longest.
+    longest: usize,
+    ghost limits: { is_config parts.now.config ≡ true },
+    ghost few: { length parts.now.rows.items < 2 ^ 32 },
+    ghost counted: { length begun.items ≡ length parts.now.rows.items },
+}
+
+impl<'p> Explorer<'p> {
+    /// Nothing was run yet.
+    fn new(alloc: Global, parts: &'p Parts) -> Result<Self, AllocError>
+        requires limits { is_config parts.now.config ≡ true }
+        requires few { length parts.now.rows.items < 2 ^ 32 }
+        ensures parts { IfOk result (λ new. new.parts.now ≡ parts.now) }
+        ensures table { IfOk result (λ new. new.table ≡ []) }
+    {
+        let mut begun = Vec::new(alloc);
+        begun.resize(parts.rows.len(), 0)?;
+        Ok(Explorer {
+            alloc,
+            parts,
+            run: None,
+            begun,
+            said: Vec::new(alloc),
+            path: Vec::new(alloc),
+            table: Table::new(alloc),
+            shortest: usize::MAX,
+            longest: 0,
+        })
+    }
+
+    /// The outcomes, and how long the shortest and the longest order were.
+    fn close(self) -> (Table, usize, usize)
+        ensures { result.0 ≡ self.entry.table }
+    {
+        let Explorer {
+            alloc: _,
+            parts: _,
+            run,
+            begun: _,
+            said: _,
+            path: _,
+            table,
+            shortest,
+            longest,
+        } = self;
+        close_run(run);
+        (table, shortest, longest)
+    }
+}
+
+impl<'p> Machine for Explorer<'p> {
+    ghost came = { λ m run. IsAt m.run m.parts.now run m.begun.items m.said.items m.path.items };
+
+    ghost may = { λ m ready. ready ≡ ready_now m.run m.parts.now.rows.items };
+
+    ghost gathered = { λ m runs. Counts m.parts.now runs m.table };
+
+    ghost stays = { λ a b. b.parts.now ≡ a.parts.now };
+
+    fn begin(&mut self) -> Result<(), AllocError> {
+        let mut run = open_run(self.alloc, self.parts)?;
+        let begun = begin_run(&mut run, self.parts, &mut self.begun, &mut self.said);
+        close_run(mem::replace(&mut self.run, Some(run)));
+        self.path.clear();
+        begun
+    }
+
+    fn ready(&self, alloc: Global) -> Result<Vec<u32>, AllocError> {
+        match &self.run {
+            Some(run) => ready_of(alloc, run, &self.parts.rows),
+            None => Ok(Vec::new(alloc)),
+        }
+    }
+
+    fn turn(&mut self, _ready: &[u32], who: u32) -> Result<(), AllocError> {
+        match &mut self.run {
+            Some(run) => {
+                let rows = &self.parts.rows;
+                take_turn(run, rows, &mut self.begun, who as usize, &mut self.said)?;
+            }
+            None => unreachable!(),
+        }
+        self.path.push(who)?;
+        Ok(())
+    }
+
+    fn end(&mut self) -> Result<(), AllocError> {
+        let Some(run) = self.run.take() else {
+            return Err(AllocError);
+        };
+        let mut looked = Vec::new(self.alloc);
+        look(run, &self.parts.looks, &mut looked)?;
+        let outcome = outcome_of(self.alloc, &self.parts.rows, &self.said, &looked)?;
+        self.table.add(outcome, &self.path)?;
+        self.shortest = self.shortest.min(self.path.len());
+        self.longest = self.longest.max(self.path.len());
+        Ok(())
+    }
+
+    ghost use Rattle.std.proofs.Common.{refl, ◌∙◌};
+
+    ghost same = { λ m. refl };
+
+    ghost further = { λ a b c first second. second ∙ first };
+}
+
+/// What was found of the orders.
+#[derive(Drop)]
+pub struct Exploration {
+    pub walk: Walk,
+    pub table: Table,
+    /// The number of turns of the shortest order.
+    pub shortest: usize,
+    /// That of the longest.
+    pub longest: usize,
+}
+
+/// Runs the machine once for each order of the work: at most `orders` orders, each of at most `turns` turns. Each order
+/// begins with a new machine.
+///
+/// It fails if memory runs out, or with `Changed` if other actors were ready than before after the same turns.
+pub fn explore(alloc: Global, parts: &Parts, turns: u32, orders: u64) -> Result<Exploration, Fault>
+    requires limits { is_config parts.now.config ≡ true }
+    requires few { length parts.now.rows.items < 2 ^ 32 }
+    ensures { IfOk result (λ found. Explored parts.now turns orders found.walk found.table) }
+{
+    let mut explorer = Explorer::new(alloc, parts)?;
+    let walked = walk_all(alloc, &mut explorer, turns as usize, orders);
+    let (table, shortest, longest) = explorer.close();
+    Ok(Exploration {
+        walk: walked?,
+        table,
+        shortest,
+        longest,
+    })
+}

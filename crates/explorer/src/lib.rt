@@ -1,0 +1,15 @@
+//! A machine that is run once for each order of its actors' turns, and the outcomes of these orders.
+#![tactic(auto)]
+
+mod copies;
+mod explorer;
+mod outcome;
+mod parts;
+mod plan;
+mod table;
+
+pub use copies::copy_of_step;
+pub use explorer::{Exploration, close_run, explore, open_run};
+pub use parts::{Parts, Row};
+pub use plan::{carry_one, next_line};
+pub use table::{Found, Table};

@@ -1,0 +1,30 @@
+//! What is explored.
+
+use machine::command::{Actor, Step};
+use machine::config::Config;
+
+/// An actor, and what it begins in the work, one command after another.
+#[derive(Drop)]
+pub struct Row {
+    pub actor: Actor,
+    /// The steps that begin its commands.
+    pub lines: Vec<Step>,
+    /// The numbers of these lines in the script.
+    pub numbers: Vec<usize>,
+}
+
+/// What is explored: a machine over a device in memory, and what is done with it.
+#[derive(Drop)]
+pub struct Parts {
+    pub config: Config,
+    /// Which reads of the device fail, counted from 1.
+    pub read_faults: Vec<u64>,
+    /// Which writes.
+    pub write_faults: Vec<u64>,
+    /// What is done before the work, in sequence.
+    pub setup: Vec<Step>,
+    /// The work. Different rows have different actors.
+    pub rows: Vec<Row>,
+    /// What is done after the work, in sequence.
+    pub looks: Vec<Step>,
+}

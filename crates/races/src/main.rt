@@ -1,0 +1,99 @@
+//! Explores the races that its words name. For each it compares the outcomes with those of its file, and checks that each
+//! outcome that is shown as a script answers what that script expects.
+#![tactic(auto)]
+
+use explore::{Asked, Verdict, explore_script};
+use std::alloc::Global;
+use std::fs::File;
+use std::io::{ErrorKind, Read, Write};
+use std::process::ExitCode;
+use std::rt::{Env, Files};
+use std::{env, io};
+use subcommands::{Options, read_and_check};
+
+/// All bytes of a file.
+fn read<R: Files + AllocGlobal>(rt: &R, name: &str, end: &str) -> io::Result<Vec<u8>> {
+    let path = format!(in rt.alloc(); "{name}{end}")?;
+    let mut bytes = Vec::new(rt.alloc());
+    File::open(rt, path.as_str())?.read_to_end(&mut bytes)?;
+    Ok(bytes)
+}
+
+/// What an exploration prints, and its number of outcomes, or none if it fails.
+fn explored(alloc: Global, asked: Asked, script: &[u8]) -> Option<(Vec<u8>, usize)> {
+    let mut out = Vec::new(alloc);
+    match explore_script(alloc, asked, script, &mut out) {
+        Ok(Verdict::All(outcomes)) => Some((out, outcomes)),
+        _ => None,
+    }
+}
+
+/// Checks each outcome, shown as a script. A line says which answers other than it expects.
+fn check_shown<W: Write>(
+    alloc: Global,
+    name: &str,
+    script: &[u8],
+    outcomes: usize,
+    out: &mut W,
+) -> io::Result<()> {
+    for place in 0..outcomes {
+        let asked = Asked {
+            show: Some((place as u64).saturating_add(1)),
+            ..Asked::default()
+        };
+        let Some((shown, _)) = explored(alloc, asked, script) else {
+            return Err(ErrorKind::Other.into());
+        };
+        let mut said = Vec::new(alloc);
+        let mut told = Vec::new(alloc);
+        let mut rest = shown.as_slice();
+        let options = Options::default();
+        if read_and_check(alloc, options, name, &mut rest, &mut said, &mut told) != 0 {
+            writeln!(
+                out,
+                "{name}: outcome {place} is not what its script answers"
+            )?;
+            out.write_all(&said)?;
+            out.write_all(&told)?;
+        }
+    }
+    Ok(())
+}
+
+/// Explores a race. A line has its number of outcomes, and another says if they are not those of its file.
+fn explore_race<R: Files + AllocGlobal, W: Write>(
+    rt: &R,
+    name: &str,
+    out: &mut W,
+) -> io::Result<()> {
+    let alloc = rt.alloc();
+    let script = read(rt, name, ".memcg")?;
+    let wanted = read(rt, name, ".outcomes")?;
+    let Some((found, outcomes)) = explored(alloc, Asked::default(), &script) else {
+        return Err(ErrorKind::Other.into());
+    };
+    if found.as_slice() != wanted.as_slice() {
+        writeln!(out, "{name}: other outcomes than in its file")?;
+        out.write_all(&found)?;
+    }
+    writeln!(out, "{name}: {outcomes}")?;
+    check_shown(alloc, name, &script, outcomes, out)
+}
+
+/// Explores all races.
+fn explore_all<R: Env + Files + AllocGlobal, W: Write>(rt: &R, out: &mut W) -> io::Result<()> {
+    let words: Vec<String> = env::args(rt)?.collect(rt.alloc())?;
+    for name in words.iter().skip(1) {
+        explore_race(rt, name.as_str(), out)?;
+    }
+    Ok(())
+}
+
+fn main(rt: HostRuntime) -> ExitCode {
+    let Err(fault) = explore_all(&rt, &mut rt.stdout()) else {
+        return ExitCode::SUCCESS;
+    };
+    // The status reports the failure even if its line can't be written.
+    let _ = writeln!(rt.stderr(), "{fault}");
+    ExitCode::FAILURE
+}

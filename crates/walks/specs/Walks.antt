@@ -1,0 +1,49 @@
+-- Which runs a walk made.
+use Rattle.std.specs.Prelude.{◌≡◌, ℕ, ◌+◌, ◌<◌, List, [], ◌∷◌, ◌++◌, length, All as Each}
+use Rattle.orders.specs.Paths.{Tree, paths}
+use Rattle.orders.specs.Course.{Course, taken, IsThrough}
+use Rattle.orders.specs.Runs.{Run, turns, IsRun, AreAllRuns, IsWalk}
+use Rattle.walks.specs.declared.Walk.{Walk}
+use Rattle.walks.specs.declared.Walk.TheVariants.{All, Stopped, TooDeep}
+
+-- all runs were made and gathered, and this is their number. (Excludes a walk that leaves a run out and says all.)
+pub record MadeAll {M : Type 0} (gathered : M → List Run → Type 0) (machine : M) (depth count : ℕ) : Type 0 where
+  pub runs : List Run
+  pub all : AreAllRuns depth runs
+  pub count_is : length runs ≡ count
+  pub gathers : gathered machine runs
+
+-- this many runs were made and gathered, and every tree of which they are runs has more. (Excludes a walk that stops early, and one that says so although
+-- all runs were made.)
+pub record MadeSome {M : Type 0} (gathered : M → List Run → Type 0) (machine : M) (depth count : ℕ) : Type 0 where
+  pub runs : List Run
+  pub count_is : length runs ≡ count
+  pub gathers : gathered machine runs
+  pub more : (tree : Tree) → Each (IsRun tree) runs → count < length (paths depth tree)
+
+abbrev pub IsWalked : {M : Type 0} → (M → List Run → Type 0) → M → ℕ → ℕ → Walk → Type 0
+IsWalked gathered machine depth most (All count) = MadeAll gathered machine depth count
+IsWalked gathered machine depth most Stopped = MadeSome gathered machine depth most
+IsWalked gathered machine depth most TooDeep = (runs : List Run) × (length runs < most) × gathered machine runs
+
+-- ---- on the way
+
+-- this many runs were made so far
+pub record MadeSoFar {M : Type 0} (gathered : M → List Run → Type 0) (machine : M) (depth count : ℕ) (course : Course) : Type 0 where
+  pub runs : List Run
+  pub walk : IsWalk depth runs course
+  pub count_is : length runs ≡ count
+  pub gathers : gathered machine runs
+
+-- a turn was taken
+pub record Goes {M : Type 0} (came : M → Run → Type 0) (gathered : M → List Run → Type 0) (old new : M) (before after : Course) : Type 0 where
+  pub comes : came new (turns after)
+  pub one : length (taken after) ≡ length (taken before) + 1
+  pub walks : (depth : ℕ) (runs : List Run) → length (taken before) < depth → IsWalk depth runs before → IsWalk depth runs after
+  pub gathers : (runs : List Run) → gathered old runs → gathered new runs
+
+-- the run is over, and was gathered
+pub record Ends {M : Type 0} (gathered : M → List Run → Type 0) (old new : M) (before after : Course) : Type 0 where
+  pub same : after ≡ before
+  pub through : IsThrough after
+  pub gathers : (runs : List Run) → gathered old runs → gathered new (runs ++ turns after ∷ [])
