@@ -4,29 +4,29 @@ use Rattle.std.proofs.lemmas.List.{replicate-append-replicate}
 use denote.Ref.{Bor}
 use Rattle.charts.specs.declared.watching.Shown.{Shown}
 use Rattle.charts.specs.declared.watching.Row.{Row}
-use Rattle.charts.specs.Watched.{expanded}
+use Rattle.charts.specs.Watched.{Seen, seen_of, expanded}
 
 pub expanded-append : (xs ys : List Row) → expanded (xs ++ ys) ≡ expanded xs ++ expanded ys
 expanded-append [] ys = refl
-expanded-append (x ∷ xs) ys = ap (λ (rows : List (List Shown)). replicate x.steps x.groups.items ++ rows) (expanded-append xs ys) ∙ sym (append_assoc (replicate x.steps x.groups.items) (expanded xs) (expanded ys))
+expanded-append (x ∷ xs) ys = ap (λ (rows : List Seen). replicate x.steps (seen_of x) ++ rows) (expanded-append xs ys) ∙ sym (append_assoc (replicate x.steps (seen_of x)) (expanded xs) (expanded ys))
 
 -- one row behind the others
-pub expanded-last : (xs : List Row) (x : Row) → expanded (xs ++ x ∷ []) ≡ expanded xs ++ replicate x.steps x.groups.items
-expanded-last xs x = expanded-append xs (x ∷ []) ∙ ap (λ (rows : List (List Shown)). expanded xs ++ rows) (append-nil (replicate x.steps x.groups.items))
+pub expanded-last : (xs : List Row) (x : Row) → expanded (xs ++ x ∷ []) ≡ expanded xs ++ replicate x.steps (seen_of x)
+expanded-last xs x = expanded-append xs (x ∷ []) ∙ ap (λ (rows : List Seen). expanded xs ++ rows) (append-nil (replicate x.steps (seen_of x)))
 
 -- a new row stands for one step
-pub expanded-new : (xs : List Row) (x : Row) → x.steps ≡ 1 → expanded (xs ++ x ∷ []) ≡ expanded xs ++ x.groups.items ∷ []
-expanded-new xs x one = expanded-last xs x ∙ ap (λ (n : ℕ). expanded xs ++ replicate n x.groups.items) one
+pub expanded-new : (xs : List Row) (x : Row) → x.steps ≡ 1 → expanded (xs ++ x ∷ []) ≡ expanded xs ++ seen_of x ∷ []
+expanded-new xs x one = expanded-last xs x ∙ ap (λ (n : ℕ). expanded xs ++ replicate n (seen_of x)) one
 
 -- the last row stands for one step more
-pub expanded-more : (xs : List Row) (last next : Row) → next.steps ≡ last.steps + 1 → last.groups.items ≡ next.groups.items → expanded (xs ++ next ∷ []) ≡ expanded (xs ++ last ∷ []) ++ next.groups.items ∷ []
+pub expanded-more : (xs : List Row) (last next : Row) → next.steps ≡ last.steps + 1 → seen_of last ≡ seen_of next → expanded (xs ++ next ∷ []) ≡ expanded (xs ++ last ∷ []) ++ seen_of next ∷ []
 expanded-more xs last next more same =
     expanded-last xs next
-    ∙ ap (λ (n : ℕ). expanded xs ++ replicate n next.groups.items) more
-    ∙ ap (λ (rows : List (List Shown)). expanded xs ++ rows) (sym (replicate-append-replicate last.steps 1 next.groups.items))
-    ∙ sym (append_assoc (expanded xs) (replicate last.steps next.groups.items) (next.groups.items ∷ []))
-    ∙ ap (λ (groups : List Shown). (expanded xs ++ replicate last.steps groups) ++ next.groups.items ∷ []) (sym same)
-    ∙ ap (λ (rows : List (List Shown)). rows ++ next.groups.items ∷ []) (sym (expanded-last xs last))
+    ∙ ap (λ (n : ℕ). expanded xs ++ replicate n (seen_of next)) more
+    ∙ ap (λ (rows : List Seen). expanded xs ++ rows) (sym (replicate-append-replicate last.steps 1 (seen_of next)))
+    ∙ sym (append_assoc (expanded xs) (replicate last.steps (seen_of next)) (seen_of next ∷ []))
+    ∙ ap (λ (seen : Seen). (expanded xs ++ replicate last.steps seen) ++ seen_of next ∷ []) (sym same)
+    ∙ ap (λ (rows : List Seen). rows ++ seen_of next ∷ []) (sym (expanded-last xs last))
 
 -- what is made of the texts that are lent is what is made of the texts
 pub map-now : (f : List ℕ → Shown) (ps : List (Bor (List ℕ))) → map (λ (p : Bor (List ℕ)). f p.now) ps ≡ map f (map (λ (p : Bor (List ℕ)). p.now) ps)

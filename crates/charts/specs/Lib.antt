@@ -1,3 +1,4 @@
 pub mod Watched
+pub mod Phased
 pub mod Listed
 pub mod WatchLaws

@@ -1,16 +1,19 @@
 -- The table of what was watched, as comma-separated values.
-use Rattle.std.specs.Prelude.{ℕ, ◌==◌, not, Bool, true, if◌then◌else◌, List, [], ◌∷◌, ◌++◌, codes, decimal, Option, Some, None}
+use Rattle.std.specs.Prelude.{ℕ, ◌-◌, ◌==◌, ◌||◌, not, Bool, true, if◌then◌else◌, List, [], ◌∷◌, ◌++◌, codes, decimal, slice_index_or, Option, Some, None}
+use Rattle.std.specs.List.{list_any, flat_map}
 use Rattle.machine.specs.declared.amount.Amount.{Amount}
 use Rattle.machine.specs.declared.amount.Amount.TheVariants.{Max, Pages}
 use Rattle.machine.specs.declared.record.MemoryStat.{MemoryStat}
 use Rattle.machine.specs.declared.record.EventCounts.{EventCounts}
 use Rattle.machine.specs.Control.{bytes_text}
 use Rattle.book.specs.declared.looks.GroupLook.{GroupLook}
+use Rattle.charts.specs.declared.watching.Machine.{Machine}
 use Rattle.charts.specs.declared.watching.Shown.{Shown}
+use Rattle.charts.specs.Watched.{Seen}
 
 -- its first line
 abbrev pub head : List ℕ
-head = codes "line,group,current,anon,file,max,min,low,refused,oom,oom_kill\n"
+head = codes "line,group,current,anon,file,max,min,low,refused,oom,oom_kill,used,free,swap,phase\n"
 
 -- a cell, with its comma
 abbrev pub cell : List ℕ → List ℕ
@@ -29,40 +32,69 @@ charges_text usage stat = cell (bytes_text usage) ++ (cell (bytes_text stat.anon
 abbrev pub settings_text : GroupLook → List ℕ
 settings_text look = cell (amount_text look.max) ++ (cell (amount_text look.min) ++ cell (amount_text look.low))
 
--- what was counted, and the end of the line
+-- what was counted
 abbrev pub counts_text : EventCounts → List ℕ
-counts_text counts = cell (decimal counts.max) ++ (cell (decimal counts.oom) ++ (decimal counts.oom_kill ++ 10 ∷ []))
+counts_text counts = cell (decimal counts.max) ++ (cell (decimal counts.oom) ++ cell (decimal counts.oom_kill))
 
--- the line of a group
-abbrev pub line_text : ℕ → List ℕ → GroupLook → MemoryStat → List ℕ
-line_text number path look stat =
-    cell (decimal number) ++ (cell path ++ (charges_text look.usage stat ++ (settings_text look ++ counts_text look.local)))
+-- the frames of the machine in use and free, and its swap in use, in bytes. (Excludes the free ones in the place of those in use.)
+abbrev pub machine_text : Machine → List ℕ
+machine_text machine = cell (bytes_text machine.used) ++ (cell (bytes_text machine.free) ++ cell (bytes_text machine.swap))
+
+-- a comma, a quote or a carriage return
+abbrev pub is_special : ℕ → Bool
+is_special b = b == 44 || (b == 34 || b == 13)
+
+-- a quote stands twice between quotes
+abbrev pub doubled : ℕ → List ℕ
+doubled b = if b == 34 then 34 ∷ 34 ∷ [] else b ∷ []
+
+-- the last cell of a line: a text, between quotes where it needs them
+abbrev pub text_cell : List ℕ → List ℕ
+text_cell text = if list_any is_special text then 34 ∷ (flat_map doubled text ++ 34 ∷ []) else text
+
+-- the last cell, and the end of the line
+abbrev pub end_text : List ℕ → List ℕ
+end_text phase = text_cell phase ++ 10 ∷ []
+
+-- the line's number, and the group
+abbrev pub cells_text : ℕ → List ℕ → GroupLook → MemoryStat → List ℕ
+cells_text number path look stat = cell (decimal number) ++ (cell path ++ (charges_text look.usage stat ++ (settings_text look ++ counts_text look.local)))
+
+-- the line of a group: the machine and the phase stand at its end
+abbrev pub line_text : ℕ → List ℕ → Machine → List ℕ → GroupLook → MemoryStat → List ℕ
+line_text number phase machine path look stat = cells_text number path look stat ++ (machine_text machine ++ end_text phase)
 
 abbrev pub stat_or_none : Option MemoryStat → MemoryStat
 stat_or_none None = record { anon = 0; file = 0 }
 stat_or_none (Some stat) = stat
 
 -- and nothing where no group has the path
-abbrev pub look_text : ℕ → List ℕ → Option MemoryStat → Option GroupLook → List ℕ
-look_text number path stat None = []
-look_text number path stat (Some look) = line_text number path look (stat_or_none stat)
+abbrev pub look_text : ℕ → List ℕ → Machine → List ℕ → Option MemoryStat → Option GroupLook → List ℕ
+look_text number phase machine path stat None = []
+look_text number phase machine path stat (Some look) = line_text number phase machine path look (stat_or_none stat)
 
 -- the lines of all paths behind one step
-abbrev pub groups_text : ℕ → List (List ℕ) → List Shown → List ℕ
-groups_text number [] shown = []
-groups_text number (path ∷ paths) [] = []
-groups_text number (path ∷ paths) (one ∷ shown) = look_text number path one.stat one.look ++ groups_text number paths shown
+abbrev pub groups_text : ℕ → List ℕ → Machine → List (List ℕ) → List Shown → List ℕ
+groups_text number phase machine [] shown = []
+groups_text number phase machine (path ∷ paths) [] = []
+groups_text number phase machine (path ∷ paths) (one ∷ shown) = look_text number phase machine path one.stat one.look ++ groups_text number phase machine paths shown
 
 -- no other step of this line of the script follows
 abbrev pub is_last : ℕ → List ℕ → Bool
 is_last number [] = true
 is_last number (next ∷ numbers) = not (next == number)
 
--- the lines behind all steps: for each line of the script those of its last step. (Excludes a table that leaves a line out, has one twice, or has the numbers of another step.)
-abbrev pub steps_text : List ℕ → List (List ℕ) → List (List Shown) → List ℕ
-steps_text [] paths rows = []
-steps_text (number ∷ numbers) paths [] = []
-steps_text (number ∷ numbers) paths (row ∷ rows) = (if is_last number numbers then groups_text number paths row else []) ++ steps_text numbers paths rows
+-- the phase of the line of this number, where each line has one, the first that of number 1
+abbrev pub phase_of : List (List ℕ) → ℕ → List ℕ
+phase_of phases number = slice_index_or phases (number - 1) []
 
-abbrev pub table_text : List ℕ → List (List ℕ) → List (List Shown) → List ℕ
-table_text numbers paths rows = head ++ steps_text numbers paths rows
+-- the lines behind all steps: for each line of the script those of its last step. (Excludes a table that leaves a line out, has one twice, or has the numbers
+-- or the phase of another step.)
+abbrev pub steps_text : List ℕ → List (List ℕ) → List (List ℕ) → List Seen → List ℕ
+steps_text [] phases paths rows = []
+steps_text (number ∷ numbers) phases paths [] = []
+steps_text (number ∷ numbers) phases paths (row ∷ rows) =
+    (if is_last number numbers then groups_text number (phase_of phases number) row.machine paths row.groups else []) ++ steps_text numbers phases paths rows
+
+abbrev pub table_text : List ℕ → List (List ℕ) → List (List ℕ) → List Seen → List ℕ
+table_text numbers phases paths rows = head ++ steps_text numbers phases paths rows

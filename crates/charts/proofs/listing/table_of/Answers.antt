@@ -1,4 +1,4 @@
-use Rattle.std.proofs.Common.{ℕ, List, ◌∙◌, map, drop, ap, string_bytes}
+use Rattle.std.proofs.Common.{ℕ, List, ◌∙◌, map, drop, ap}
 use Rattle.std.proofs.lemmas.List.{drop_all}
 use denote.Ref.{Bor}
 use Rattle.charts.specs.declared.watching.Row.{Row}
@@ -10,7 +10,8 @@ use Rattle.charts.proofs.listing.table_of.Goals as goal
 pub returns : goal.returns
 returns c =
     let lines : List ℕ = c.args.lines.now in
+    let phases : List (List ℕ) = map (λ (p : Bor (List ℕ)). p.now) c.args.phases.now in
     let paths : List (List ℕ) = map (λ (p : Bor (List ℕ)). p.now) c.args.paths.now in
     let rows : List Row = c.args.rows.now in
-    all_listed head (string_bytes c.loop-at.text) (steps_text lines paths (expanded rows)) (steps_text (drop c.loop-at.step lines) paths (expanded (drop c.loop-at.at rows))) c.loop-at.invariant
-    (ap (λ (left : List Row). steps_text (drop c.loop-at.step lines) paths (expanded left)) (drop_all c.loop-at.at rows c.loop-at-test.false) ∙ rows-over (drop c.loop-at.step lines) paths)
+    all_listed head c.loop-at.text.items (steps_text lines phases paths (expanded rows)) (steps_text (drop c.loop-at.step lines) phases paths (expanded (drop c.loop-at.at rows))) c.loop-at.invariant
+    (ap (λ (left : List Row). steps_text (drop c.loop-at.step lines) phases paths (expanded left)) (drop_all c.loop-at.at rows c.loop-at-test.false) ∙ rows-over (drop c.loop-at.step lines) phases paths)

@@ -1,4 +1,4 @@
-use Rattle.std.proofs.Common.{◌≡◌, ℕ, ◌++◌, List, map, drop, string_bytes}
+use Rattle.std.proofs.Common.{◌≡◌, ℕ, ◌++◌, List, map, drop}
 use denote.Ref.{Bor}
 use Rattle.charts.specs.Watched.{expanded}
 use Rattle.charts.specs.Listed.{head, steps_text}
@@ -6,5 +6,5 @@ use Rattle.charts.proofs.listing.table_of.Given as goal
 
 abbrev pub invariant-loop-at : goal.invariant-loop-at
 invariant-loop-at l =
-    head ++ steps_text l.lines (map (λ (p : Bor (List ℕ)). p.now) l.paths) (expanded l.rows)
-    ≡ string_bytes l.text ++ steps_text (drop l.step l.lines) (map (λ (p : Bor (List ℕ)). p.now) l.paths) (expanded (drop l.at l.rows))
+    head ++ steps_text l.lines (map (λ (p : Bor (List ℕ)). p.now) l.phases) (map (λ (p : Bor (List ℕ)). p.now) l.paths) (expanded l.rows)
+    ≡ l.text.items ++ steps_text (drop l.step l.lines) (map (λ (p : Bor (List ℕ)). p.now) l.phases) (map (λ (p : Bor (List ℕ)). p.now) l.paths) (expanded (drop l.at l.rows))
