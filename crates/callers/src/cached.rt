@@ -74,7 +74,7 @@ fn stored<R: Abort>(rt: &R, device: &mut MemDevice) -> u8 {
     bytes[5]
 }
 
-fn is_byte(reply: Option<&Reply>, byte: u8) -> bool {
+pub fn is_byte(reply: Option<&Reply>, byte: u8) -> bool {
     match reply {
         Some(
             Reply {

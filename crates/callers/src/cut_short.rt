@@ -5,7 +5,7 @@ ghost use Rattle.std.specs.Prelude.{◌≡◌, []};
 use crate::cached::{begin, machine, reach};
 use block_store::{BlockDevice, MemDevice};
 use book::Book;
-use driver::{Closed, Reply, Sink, Steps, Stop, run_into};
+use driver::{Closed, FailedCall, Reply, Sink, Steps, Stop, run_into};
 use machine::bytes::PAGE_BYTES;
 use machine::event::{Cause, Op};
 use std::test::Fail;
@@ -31,6 +31,8 @@ impl Sink for Deaf {
     fn look(&mut self, _step: usize, _book: &Book) {}
 
     fn see_relief(&mut self, _step: usize, _book: &Book, _cause: Cause) {}
+
+    fn see_failure(&mut self, _step: usize, _book: &Book, _call: FailedCall) {}
 
     ghost nothing = { λ s. refl };
 

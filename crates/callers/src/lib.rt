@@ -27,11 +27,15 @@ mod merged;
 #[cfg(test)]
 mod on_threads;
 #[cfg(test)]
+mod opened;
+#[cfg(test)]
 mod other_bytes;
 #[cfg(test)]
 mod printed;
 #[cfg(test)]
 mod shared;
+#[cfg(test)]
+mod stepped;
 #[cfg(test)]
 mod tasks;
 #[cfg(test)]

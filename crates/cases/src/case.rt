@@ -27,7 +27,8 @@ use std::io::Write;
 use std::sync::Wait;
 use std::thread::Threads;
 use subcommands::{
-    Options, Placement, read_and_check, run_script, run_script_on_threads, status_of, status_of_run,
+    Amounts, Options, Placement, read_and_check, run_script, run_script_on_threads, status_of,
+    status_of_run,
 };
 
 /// What follows the answers of a run with an audit, and of one on threads.
@@ -289,14 +290,7 @@ impl Case {
         let mut out = Vec::new(alloc);
         let mut err = Vec::new(alloc);
         let mut script = self.script.as_bytes();
-        let status = read_and_check(
-            alloc,
-            options.placement,
-            FILE,
-            &mut script,
-            &mut out,
-            &mut err,
-        );
+        let status = read_and_check(alloc, options, FILE, &mut script, &mut out, &mut err);
         out.extend_from_slice(&err)?;
         if self.is_checked(status, &out) {
             return Ok(());
@@ -312,13 +306,20 @@ fn ask_for(options: &mut Options, name: &str) {
         "--as-linux" => options.placement = Placement::Linux,
         "--audit" => options.audit = true,
         "--explain" => options.explain = true,
+        "--human" => options.amounts = Amounts::Human,
         "--labels" => options.labels = true,
         "--lines" => options.lines = true,
+        "--pages" => options.amounts = Amounts::Pages,
         "--progress" => options.progress = true,
+        "--progress-lines" => options.progress_lines = true,
         "--quiet" => options.quiet = true,
         "--strict" => options.strict = true,
         "--summary" => options.summary = true,
-        _ => {}
+        _ => {
+            if let Some(turns) = name.strip_prefix("--turns=") {
+                options.turns = turns.parse().unwrap_or(0);
+            }
+        }
     }
 }
 

@@ -1,5 +1,5 @@
 -- What a script expects of its run.
-use Rattle.std.specs.Prelude.{◌≡◌, ◌⊎◌, ℕ, ◌+◌, ◌<◌, ◌≤◌, Bool, true, false, ◌==◌, ◌&&◌, not, nat_lt, if◌then◌else◌, List, [], ◌∷◌, ◌++◌, take, drop, codes, find}
+use Rattle.std.specs.Prelude.{◌≡◌, ◌⊎◌, ℕ, ◌+◌, ◌<◌, ◌≤◌, Bool, true, false, ◌==◌, ◌&&◌, not, nat_lt, if◌then◌else◌, List, [], ◌∷◌, ◌++◌, take, drop, codes, find, position}
 use Rattle.std.specs.List.{before_first}
 use Rattle.std.specs.Option.{option_map_or}
 use Rattle.std.specs.Str.{bytes_eq}
@@ -14,6 +14,10 @@ use Rattle.expectations.specs.declared.difference.Difference.TheVariants as diff
 -- the line expects its text behind `#> ` as a line of output
 abbrev pub is_expected : List ℕ → Bool
 is_expected l = bytes_eq (take 3 l) (codes "#> ")
+
+-- the line is a comment that looks as if it expected a text, and expects none: its first word begins with `#>`
+abbrev pub looks_expected : List ℕ → Bool
+looks_expected l = not (is_expected l) && option_map_or (λ at. bytes_eq (take 2 (drop at l)) (codes "#>")) (position (λ b. not (is_blank b)) l) false
 
 -- the output that these lines expect: their texts, in their order
 abbrev pub expected_in : List (List ℕ) → List ℕ
@@ -77,13 +81,13 @@ pub record MeetsNext (expected : Expectation) (output numbers output' numbers' :
 abbrev pub first_text : List ℕ → List ℕ
 first_text output = before_first (λ b. b == 10) output
 
--- the difference is between the text that is expected next and this output, from lines of these numbers: another text came from where it has to; or none
+-- the difference is between the text that is expected next and this output, from lines of these numbers: another text came from where it has to, from the line of that number; or none
 -- is left, or the next came from a line behind the one that expects it; or the next came from a line before all from which it may
 abbrev pub IsNext : Expectation → List ℕ → List ℕ → Difference → Type 0
-IsNext expected output numbers (difference.Other number wanted got) =
+IsNext expected output numbers (difference.Other number from wanted got) =
     (number ≡ expected.before) × (wanted.now ≡ expected.text) × (got.now ≡ first_text output)
     × ((rest : List ℕ) → output ≡ line expected.text ++ rest → ⊥)
-    × ((n : ℕ) × (ns : List ℕ) × (numbers ≡ n ∷ ns) × (expected.after < n) × (n < expected.before))
+    × ((ns : List ℕ) × (numbers ≡ from ∷ ns)) × (expected.after < from) × (from < expected.before)
 IsNext expected output numbers (difference.Nothing number wanted) =
     (number ≡ expected.before) × (wanted.now ≡ expected.text) × ((n : ℕ) (ns : List ℕ) → numbers ≡ n ∷ ns → expected.before ≤ n)
 IsNext expected output numbers (difference.Unexpected number got) =
@@ -91,7 +95,7 @@ IsNext expected output numbers (difference.Unexpected number got) =
 
 -- all that was expected was met, and the difference is of the text that is left
 abbrev pub IsLeft : List ℕ → List ℕ → Difference → Type 0
-IsLeft output numbers (difference.Other number wanted got) = ⊥
+IsLeft output numbers (difference.Other number from wanted got) = ⊥
 IsLeft output numbers (difference.Nothing number wanted) = ⊥
 IsLeft output numbers (difference.Unexpected number got) = (got.now ≡ first_text output) × ((n : ℕ) (ns : List ℕ) → numbers ≡ n ∷ ns → number ≡ n)
 

@@ -5,9 +5,10 @@ use std::{fmt, str};
 /// A place at which the answer is not what the script expects, by a line of the script.
 #[derive(Clone, Copy)]
 pub enum Difference<'a> {
-    /// The line expects a text, and another was answered.
+    /// The line expects a text, and the line of the number `from` answered another.
     Other {
         line: usize,
+        from: usize,
         wanted: &'a [u8],
         got: &'a [u8],
     },
@@ -23,9 +24,9 @@ pub enum Difference<'a> {
     },
 }
 
-/// A text of a script, or of its output. Both are UTF-8 if a script was run. Its control characters are written out.
+/// A text of a script, or of its output, with its control characters written out. Both are UTF-8 if a script was run.
 #[derive(Clone, Copy)]
-struct Text<'a>(&'a [u8]);
+pub struct Text<'a>(pub &'a [u8]);
 
 impl fmt::Display for Text<'_> {
     fn fmt<W: fmt::Write>(&self, f: &mut fmt::Formatter<W>) -> fmt::Result {
@@ -47,9 +48,12 @@ impl fmt::Display for Text<'_> {
 impl fmt::Display for Difference<'_> {
     fn fmt<W: fmt::Write>(&self, f: &mut fmt::Formatter<W>) -> fmt::Result {
         match *self {
-            Difference::Other { line, wanted, got } => {
-                write!(f, "{line}: expected {}, got {}", Text(wanted), Text(got))
-            }
+            Difference::Other {
+                line,
+                from: _,
+                wanted,
+                got,
+            } => write!(f, "{line}: expected {}, got {}", Text(wanted), Text(got)),
             Difference::Nothing { line, wanted } => {
                 write!(f, "{line}: expected {}, got nothing", Text(wanted))
             }

@@ -10,9 +10,10 @@ mod walk;
 ghost use Rattle.std.specs.Prelude.{◌↔◌, IsOk, IfErr};
 ghost use Rattle.expectations.specs.Expected.{expectations_of, IsFirstOf, Meets};
 
-pub use difference::Difference;
+pub use difference::{Difference, Text};
 use scripts::lines::first_line;
 use walk::Walk;
+pub use walk::looks_expected;
 
 /// Compares the output of a run of the script with what the script expects. `numbers` has, for each line of the output,
 /// the number of the script's line that caused it. The error is the first difference.

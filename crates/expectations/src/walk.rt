@@ -3,7 +3,7 @@
 ghost use Rattle.std.specs.Prelude.{◌≡◌, ℕ, ◌+◌, List, [], ◌∷◌, ◌++◌, ◌↔◌, ◌==◌, not, find, position, MatchOption, MatchResult, IsOk, IfErr};
 ghost use Rattle.machine.specs.Control.{line};
 ghost use Rattle.scripts.specs.Words.{is_blank};
-ghost use Rattle.expectations.specs.Expected.{first_text, is_skipped, Expectation, IsLeft, IsNext, MeetsNext};
+ghost use Rattle.expectations.specs.Expected.{first_text, is_skipped, looks_expected, Expectation, IsLeft, IsNext, MeetsNext};
 ghost use Rattle.expectations.specs.Steps.{IsMet, Passes, Stops};
 
 use crate::difference::Difference;
@@ -31,6 +31,23 @@ fn is_skipped(line: &[u8]) -> bool
     match first_byte(line) {
         Some(byte) => byte == b'#',
         None => true,
+    }
+}
+
+/// The place of the first byte of the line's first word, if it has one.
+fn first_place(line: &[u8]) -> Option<usize>
+    ensures { result ≡ position (λ b. not (is_blank b)) line.now }
+{
+    line.iter().position(|byte| !is_blank(*byte))
+}
+
+/// Whether the line is a comment that looks as if it expected a text, as `#>0`, and expects none.
+pub fn looks_expected(line: &[u8]) -> bool
+    ensures { result ≡ looks_expected line.now }
+{
+    match first_place(line) {
+        Some(at) => !line.starts_with(MARK) && line[at..].starts_with(b"#>"),
+        None => false,
     }
 }
 
@@ -142,6 +159,7 @@ impl<'a, 'n> Walk<'a, 'n> {
         let Some(output) = behind_line(self.output, wanted) else {
             return Err(Difference::Other {
                 line: number,
+                from: *answered,
                 wanted,
                 got,
             });

@@ -3,7 +3,10 @@
 //! Nothing is judged again: the tests are those by which the reader found the fault. The word that is named is the
 //! first of the line that fails the test of the cause. No clause speaks of the texts.
 
+use crate::meant::{line_word_meant, task_word_meant};
 use crate::why::{BadPath, Placed, Why};
+use control_files::parse_amount;
+use machine::amount::Amount;
 use machine::limit::{LAST_NUMBER, MOST_BLOCKS, MOST_FILES};
 use scripts::check::{name_fits, number_fits, word_fits};
 use scripts::forms::{Kind, Manner, Speaker, Word, may_stand, takes_line, word_named};
@@ -120,25 +123,48 @@ fn no_text<'a>(text: &[u8], line: &[u8]) -> Option<Why<'a>> {
     })
 }
 
-fn unknown_word<'w>(parts: &Parts<'w, '_>) -> Option<Why<'w>> {
-    let name = parts.placed(0)?;
-    if let Some(word) = parts.word() {
-        if !may_stand(parts.manner, word) {
-            return Some(Why::NotBegun(name));
-        }
-        let (kind, argument) = parts.misfit(word, Cause::UnknownWord)?;
-        return Some(Why::Misfit(argument, kind));
+/// The word is known, but it may not stand here, or one of its arguments is not known.
+fn known_word<'w>(parts: &Parts<'w, '_>, name: Placed<'w>, word: Word) -> Option<Why<'w>> {
+    if !may_stand(parts.manner, word) {
+        return Some(Why::NotBegun(name));
     }
-    if parts.task.is_some() {
-        return Some(Why::NoTaskWord(name));
+    let (kind, argument) = parts.misfit(word, Cause::UnknownWord)?;
+    Some(Why::Misfit(argument, kind))
+}
+
+/// No task has this word.
+fn no_task_word<'w>(alloc: Global, name: Placed<'w>) -> Result<Why<'w>, AllocError> {
+    match task_word_meant(alloc, name.text)? {
+        None => Ok(Why::NoTaskWord(name)),
+        Some(near) => Ok(Why::NearTaskWord(name, near)),
     }
+}
+
+/// No line begins with this word.
+fn no_word<'w>(alloc: Global, name: Placed<'w>) -> Result<Why<'w>, AllocError> {
     if name.text.starts_with(BYTE_ORDER_MARK) {
-        return Some(Why::ByteOrderMark(name));
+        return Ok(Why::ByteOrderMark(name));
     }
     if word_named(Speaker::Task, name.text).is_some() {
-        return Some(Why::TaskWord(name));
+        return Ok(Why::TaskWord(name));
     }
-    Some(Why::NoWord(name))
+    match line_word_meant(alloc, name.text)? {
+        None => Ok(Why::NoWord(name)),
+        Some(near) => Ok(Why::NearWord(name, near)),
+    }
+}
+
+fn unknown_word<'w>(alloc: Global, parts: &Parts<'w, '_>) -> Result<Option<Why<'w>>, AllocError> {
+    let Some(name) = parts.placed(0) else {
+        return Ok(None);
+    };
+    if let Some(word) = parts.word() {
+        return Ok(known_word(parts, name, word));
+    }
+    if parts.task.is_some() {
+        return Ok(Some(no_task_word(alloc, name)?));
+    }
+    Ok(Some(no_word(alloc, name)?))
 }
 
 fn missing_argument<'w>(parts: &Parts<'w, '_>) -> Option<Why<'w>> {
@@ -161,10 +187,27 @@ fn extra_argument<'w>(parts: &Parts<'w, '_>) -> Option<Why<'w>> {
     Some(Why::Extra(extra, form))
 }
 
+/// A word that has other characters than digits, in place of a number.
+fn not_digits<'w>(parts: &Parts<'w, '_>, placed: Placed<'w>, kind: Kind) -> Why<'w> {
+    if placed.text.starts_with('/')
+        && let Some(next) = parts.placed(2)
+        && is_digits(next.text)
+    {
+        return Why::Turned(placed, next);
+    }
+    if placed.text.contains("..") {
+        return Why::Range(placed, kind);
+    }
+    match parse_amount(placed.text) {
+        Some(Amount::Pages(pages)) => Why::Amount(placed, kind, pages),
+        _ => Why::NotDigits(placed, kind),
+    }
+}
+
 /// A word that is not a number of this kind.
-fn no_number<'w>(placed: Placed<'w>, kind: Kind) -> Why<'w> {
+fn no_number<'w>(parts: &Parts<'w, '_>, placed: Placed<'w>, kind: Kind) -> Why<'w> {
     if !is_digits(placed.text) {
-        return Why::NotDigits(placed, kind);
+        return not_digits(parts, placed, kind);
     }
     match (kind, number_of(placed.text)) {
         (Kind::Number { least, .. }, Some(number)) if number < least => Why::Below(placed, least),
@@ -203,7 +246,7 @@ fn bad_number<'w>(
         return Ok(None);
     };
     match parts.misfit(word, Cause::BadNumber) {
-        Some((kind, placed)) => Ok(Some(no_number(placed, kind))),
+        Some((kind, placed)) => Ok(Some(no_number(parts, placed, kind))),
         None => bad_marks(alloc, text, parts),
     }
 }
@@ -342,7 +385,7 @@ fn why<'w>(
     let parts = parts_of(words);
     match cause {
         Cause::NotText => Ok(no_text(text, line_at(text, line))),
-        Cause::UnknownWord => Ok(unknown_word(&parts)),
+        Cause::UnknownWord => unknown_word(alloc, &parts),
         Cause::MissingArgument => Ok(missing_argument(&parts)),
         Cause::ExtraArgument => Ok(extra_argument(&parts)),
         Cause::BadNumber => bad_number(alloc, text, &parts),

@@ -7,8 +7,10 @@
 
 mod amounts;
 mod explanation;
+mod meant;
 mod reason;
 mod refused;
+mod sentence;
 mod shown;
 mod why;
 

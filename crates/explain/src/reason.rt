@@ -1,6 +1,7 @@
 //! The texts that say why a command ended with a word.
 
 use crate::amounts::tip_for;
+use crate::sentence::{Sentence, fixed, with_one, with_two};
 use machine::command::Actor;
 use machine::limit::{LAST_TASK, MOST_TASKS, TASK_PAGES};
 use std::fmt;
@@ -60,8 +61,12 @@ pub enum Reason<'a> {
     NoGroupNow(&'a str),
     /// No group has this path, which is the parent's.
     NoParent(&'a str),
-    /// No group has a control file of this name.
+    /// Linux has a control file of this name, which is not modelled.
     NotModelled(&'a str),
+    /// No group has a control file of this name, on Linux neither.
+    NoControlFile(&'a str),
+    /// The same, and the second may be meant.
+    NearFile(&'a str, &'static str),
     /// The root has no control file of this name, but other groups have.
     RootLacks(&'a str),
     /// By their paths, the second group could not be below the first.
@@ -116,119 +121,223 @@ pub enum Reason<'a> {
     NoMemory,
 }
 
-impl fmt::Display for Reason<'_> {
+/// What a sentence has besides its fixed words.
+#[derive(Clone, Copy)]
+enum Part<'a> {
+    Text(&'a str),
+    /// In quotes, with its control characters written out.
+    Quoted(&'a str),
+    /// The name of a control file.
+    File(&'a str),
+    Number(u64),
+    Actor(Actor),
+    /// What to write in place of this amount.
+    Tip(&'a str),
+}
+
+impl fmt::Display for Part<'_> {
     fn fmt<W: Write>(&self, f: &mut Formatter<W>) -> fmt::Result {
         match self {
-            Reason::Idle(actor) => write!(f, "{} has no command in progress", Named(*actor)),
-            Reason::Underway { actor, line } => write!(
-                f,
-                "{} is still busy with the command of line {line}",
-                Named(*actor)
+            Part::Text(text) => f.write_str(text),
+            Part::Quoted(text) => write!(f, "{text:?}"),
+            Part::File(name) => write_name(f, name),
+            Part::Number(number) => write!(f, "{number}"),
+            Part::Actor(actor) => write!(f, "{}", Named(*actor)),
+            Part::Tip(text) => write!(f, "{}", tip_for(text)),
+        }
+    }
+}
+
+fn number<'a>(number: u32) -> Part<'a> {
+    Part::Number(u64::from(number))
+}
+
+impl<'a> Reason<'a> {
+    fn sentence(self) -> Sentence<Part<'a>> {
+        match self {
+            Reason::Idle(actor) => with_one("", Part::Actor(actor), " has no command in progress"),
+            Reason::Underway { actor, line } => with_two(
+                "",
+                Part::Actor(actor),
+                " is still busy with the command of line ",
+                Part::Number(line as u64),
+                "",
             ),
-            Reason::TurnLimit(turns) => write!(
-                f,
-                "no answer after {turns} turns; the command stays in progress (--turns N allows more)"
+            Reason::TurnLimit(turns) => with_one(
+                "no answer after ",
+                number(turns),
+                " turns; the command stays in progress, and the actor's next line continues it (--turns 0 sets no limit)",
             ),
-            Reason::PageOnItsWay => f.write_str(
+            Reason::PageOnItsWay => fixed(
                 "the page is in transfer, or room for it depends on a page in transfer",
             ),
-            Reason::RoomOnItsWay(path) => write!(
-                f,
-                "a page of {path} or below is in transfer, and no other page there can be reclaimed"
+            Reason::RoomOnItsWay(path) => with_one(
+                "a page of ",
+                Part::Text(path),
+                " or below is in transfer, and no other page there can be reclaimed",
             ),
-            Reason::AccessFailed => f.write_str(
+            Reason::AccessFailed => fixed(
                 "the device failed: the page could not be read in, or no page could be written out to make room",
             ),
-            Reason::WriteFailed => {
-                f.write_str("the device failed: a page could not be written out")
-            }
-            Reason::NobodyLeft => f.write_str(
+            Reason::WriteFailed => fixed("the device failed: a page could not be written out"),
+            Reason::NobodyLeft => fixed(
                 "there is no room, no page can be reclaimed, and no task is left to kill",
             ),
-            Reason::NothingLeft(path) => write!(
-                f,
-                "no page of {path} or below can be reclaimed any more"
+            Reason::NothingLeft(path) => with_one(
+                "no page of ",
+                Part::Text(path),
+                " or below can be reclaimed any more",
             ),
-            Reason::GroupThere(path) => write!(f, "the group {path} already exists"),
-            Reason::NoGroup(path) => write!(f, "there is no group {path}"),
-            Reason::NoGroupNow(path) => write!(
-                f,
-                "there is no group {path}, or it was removed during the command"
+            Reason::GroupThere(path) => with_one("the group ", Part::Text(path), " already exists"),
+            Reason::NoGroup(path) => with_one("there is no group ", Part::Text(path), ""),
+            Reason::NoGroupNow(path) => with_one(
+                "there is no group ",
+                Part::Text(path),
+                ", or it was removed during the command",
             ),
-            Reason::NoParent(path) => write!(f, "the parent group {path} does not exist"),
-            Reason::NotModelled(file) => {
-                write_name(f, file)?;
-                f.write_str(" is not modelled")
-            }
-            Reason::RootLacks(file) => write!(
-                f,
-                "the root has no {file}; its only control file is memory.reclaim"
+            Reason::NoParent(path) => with_one(
+                "the parent group ",
+                Part::Text(path),
+                " does not exist",
             ),
-            Reason::NotBelow { target, path } => write!(f, "{path} is not below {target}"),
-            Reason::HasTasks(path) => write!(
-                f,
-                "{path} has live tasks, so it cannot have child groups"
+            Reason::NotModelled(file) => with_one("", Part::File(file), " is not modelled"),
+            Reason::NoControlFile(file) => with_one(
+                "there is no control file ",
+                Part::File(file),
+                "",
             ),
-            Reason::HasGroups(path) => write!(
-                f,
-                "{path} has child groups, so it cannot have tasks"
+            Reason::NearFile(file, near) => with_two(
+                "there is no control file ",
+                Part::File(file),
+                "; did you mean ",
+                Part::Text(near),
+                "?",
             ),
-            Reason::InUse(path) => write!(f, "{path} has child groups or live tasks"),
-            Reason::RootStays => f.write_str("the root cannot be removed"),
-            Reason::TooDeep(levels) => write!(
-                f,
-                "the group would be {levels} levels below the root; at most {MOST_LEVELS} are allowed"
+            Reason::RootLacks(file) => with_one(
+                "the root has no ",
+                Part::Text(file),
+                "; its only control file is memory.reclaim",
             ),
-            Reason::GroupsFull => write!(
-                f,
-                "the machine has {MOST_GROUPS} groups already, the root included; no more are possible"
+            Reason::NotBelow { target, path } => with_two(
+                "",
+                Part::Text(path),
+                " is not below ",
+                Part::Text(target),
+                "",
             ),
-            Reason::TasksFull => write!(
-                f,
-                "{MOST_TASKS} tasks are alive already; no more are possible"
+            Reason::HasTasks(path) => with_one(
+                "",
+                Part::Text(path),
+                " has live tasks, so it cannot have child groups",
             ),
-            Reason::NoTaskNumber(task) => write!(
-                f,
-                "{task} is not a task's number; use 1 to {LAST_TASK}"
+            Reason::HasGroups(path) => with_one(
+                "",
+                Part::Text(path),
+                " has child groups, so it cannot have tasks",
             ),
-            Reason::NumberUsed(task) => write!(
-                f,
-                "an earlier task had the number {task}; use another number"
+            Reason::InUse(path) => with_one(
+                "",
+                Part::Text(path),
+                " has child groups or live tasks",
             ),
-            Reason::NoTask(task) => { write!(f, "task {task} was never started, or has exited") }
-            Reason::NoLiveTask(task) => write!(
-                f,
-                "task {task} was never started, has exited, or was killed"
+            Reason::RootStays => fixed("the root cannot be removed"),
+            Reason::TooDeep(levels) => with_two(
+                "the group would be ",
+                Part::Number(levels as u64),
+                " levels below the root; at most ",
+                Part::Number(MOST_LEVELS as u64),
+                " are allowed",
             ),
-            Reason::PagePast(page) => write!(
-                f,
-                "page {page} is above {}, the last page of a task",
-                TASK_PAGES - 1
+            Reason::GroupsFull => with_one(
+                "the machine has ",
+                number(MOST_GROUPS),
+                " groups already, the root included; no more are possible",
             ),
-            Reason::OffsetPast(offset) => write!(
-                f,
-                "offset {offset} is above {LAST_OFFSET}, the last byte of a page"
+            Reason::TasksFull => with_one(
+                "",
+                Part::Number(MOST_TASKS as u64),
+                " tasks are alive already; no more are possible",
             ),
-            Reason::NoFile(name) => write!(f, "there is no file {name}"),
-            Reason::FilePagePast { name, page } => write!(f, "the file {name} has no page {page}"),
-            Reason::NoAmount(text) => write!(f, "{text:?} is not an amount; {}", tip_for(text)),
-            Reason::AmountTooLarge(text) => write!(
-                f,
-                "{text} is too large; the largest amount is {} bytes",
-                u64::MAX
+            Reason::NoTaskNumber(task) => with_two(
+                "",
+                number(task),
+                " is not a task's number; use 1 to ",
+                number(LAST_TASK),
+                "",
             ),
-            Reason::NoFlag(text) => write!(f, "{text:?} is not a flag; write 0 or 1"),
-            Reason::MaxReclaimed => f.write_str(
+            Reason::NumberUsed(task) => with_one(
+                "an earlier task had the number ",
+                number(task),
+                "; use another number",
+            ),
+            Reason::NoTask(task) => with_one(
+                "task ",
+                number(task),
+                " was never started, or has exited",
+            ),
+            Reason::NoLiveTask(task) => with_one(
+                "task ",
+                number(task),
+                " was never started, has exited, or was killed",
+            ),
+            Reason::PagePast(page) => with_two(
+                "page ",
+                number(page),
+                " is above ",
+                number(TASK_PAGES - 1),
+                ", the last page of a task",
+            ),
+            Reason::OffsetPast(offset) => with_two(
+                "offset ",
+                number(offset),
+                " is above ",
+                Part::Number(LAST_OFFSET as u64),
+                ", the last byte of a page",
+            ),
+            Reason::NoFile(name) => with_one("there is no file ", Part::Text(name), ""),
+            Reason::FilePagePast { name, page } => with_two(
+                "the file ",
+                Part::Text(name),
+                " has no page ",
+                number(page),
+                "",
+            ),
+            Reason::NoAmount(text) => with_two(
+                "",
+                Part::Quoted(text),
+                " is not an amount; ",
+                Part::Tip(text),
+                "",
+            ),
+            Reason::AmountTooLarge(text) => with_two(
+                "",
+                Part::Text(text),
+                " is too large; the largest amount is ",
+                Part::Number(u64::MAX),
+                " bytes",
+            ),
+            Reason::NoFlag(text) => with_one(
+                "",
+                Part::Quoted(text),
+                " is not a flag; write 0 or 1",
+            ),
+            Reason::MaxReclaimed => fixed(
                 "memory.reclaim does not take max; write a number of bytes",
             ),
-            Reason::NotWritten(file) => write!(f, "{file} is read-only"),
-            Reason::NotRead(file) => write!(f, "{file} is write-only"),
-            Reason::NoPath(path) => write!(f, "{path:?} is not a group's path"),
-            Reason::TraceFull => f.write_str(
+            Reason::NotWritten(file) => with_one("", Part::Text(file), " is read-only"),
+            Reason::NotRead(file) => with_one("", Part::Text(file), " is write-only"),
+            Reason::NoPath(path) => with_one("", Part::Quoted(path), " is not a group's path"),
+            Reason::TraceFull => fixed(
                 "the trace is full; put \"trace N\" at the top of the script to make room for N entries",
             ),
-            Reason::NoMemory => f.write_str("the program itself is out of memory"),
+            Reason::NoMemory => fixed("the program itself is out of memory"),
         }
+    }
+}
+
+impl fmt::Display for Reason<'_> {
+    fn fmt<W: Write>(&self, f: &mut Formatter<W>) -> fmt::Result {
+        write!(f, "{}", self.sentence())
     }
 }
 

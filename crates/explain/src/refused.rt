@@ -1,9 +1,11 @@
 //! Why a command was refused: from the command, the word that was the answer and the words of its line, and from
 //! nothing else.
 
-ghost use Rattle.std.specs.Prelude.{◌≡◌, Some, IfSome};
+ghost use Rattle.std.specs.Prelude.{◌≡◌, Some, None, IfSome};
+ghost use Rattle.machine.specs.Control.{file_named};
 ghost use Rattle.explain.specs.Reasons.{IsSo, is_task_number, path_in, file_in, text_in, number_in};
 
+use crate::meant::{file_meant, is_of_linux};
 use crate::reason::Reason;
 use control_files::{file_named, has_file, parse_amount, parse_flag};
 use machine::amount::Amount;
@@ -14,6 +16,7 @@ use machine::event::Place;
 use machine::id::GroupId;
 use machine::limit::{LAST_TASK, MOST_FILES, TASK_PAGES};
 use machine::refusal::Refusal;
+use std::alloc::Global;
 use text_forms::number::is_digits;
 
 /// The most levels below the root.
@@ -32,6 +35,8 @@ pub struct Told<'a> {
     pub in_turns: bool,
     /// The most turns of a line.
     pub turns: u32,
+    /// Where memory for the search for a word that may be meant comes from.
+    pub alloc: Global,
 }
 
 /// Why this word was the answer to the command, or why another could not begin while it was under way. There is no
@@ -167,7 +172,7 @@ fn no_file<'a>(told: Told<'a>, file: &'a str) -> Option<Reason<'a>>
     ensures { IfSome result (IsSo told.entry.actor told.entry.command.now) }
 {
     let Some(named) = file_named(file) else {
-        return Some(Reason::NotModelled(file));
+        return Some(unknown_file(told, file));
     };
     let path = path_of(told.command)?;
     if path == "/" && !has_file(GroupId::ROOT, named) {
@@ -177,6 +182,21 @@ fn no_file<'a>(told: Told<'a>, file: &'a str) -> Option<Reason<'a>>
         return Some(Reason::NoGroupNow(path));
     }
     Some(Reason::NoGroup(path))
+}
+
+/// No group has a control file of this name. If memory for a search runs out, the message suggests no other name.
+fn unknown_file<'a>(told: Told<'a>, file: &'a str) -> Reason<'a>
+    requires so { file_in told.command.now ≡ Some file.now }
+    requires unknown { file_named file.now ≡ None }
+    ensures { IsSo told.entry.actor told.entry.command.now result }
+{
+    if is_of_linux(file) {
+        return Reason::NotModelled(file);
+    }
+    match file_meant(told.alloc, file) {
+        Ok(Some(near)) => Reason::NearFile(file, near),
+        Ok(None) | Err(_) => Reason::NoControlFile(file),
+    }
 }
 
 /// A group whose path continues the path of another is below it, if it exists. Then the other exists, too.

@@ -1,5 +1,6 @@
 //! The texts that say more of a fault than its cause does.
 
+use crate::sentence::Sentence;
 use scripts::forms::{Form, Kind};
 use std::fmt;
 use std::fmt::{Formatter, Write};
@@ -106,8 +107,12 @@ pub enum Why<'a> {
     NoWord(Placed<'a>),
     /// The word is one of a task's, and no task's number comes before it.
     TaskWord(Placed<'a>),
+    /// The same, and this word may be meant.
+    NearWord(Placed<'a>, &'static str),
     /// A task's number comes before the word, and a task has no such word.
     NoTaskWord(Placed<'a>),
+    /// The same, and this word may be meant.
+    NearTaskWord(Placed<'a>, &'static str),
     /// The line may not follow `begin`.
     NotBegun(Placed<'a>),
     /// The word is not what its place requires.
@@ -125,6 +130,12 @@ pub enum Why<'a> {
     /// The line has more words than the form, from this one on.
     Extra(Placed<'a>, Form),
     NotDigits(Placed<'a>, Kind),
+    /// The same: the word is an amount, of this number of pages.
+    Amount(Placed<'a>, Kind, u64),
+    /// The same: the word is a range.
+    Range(Placed<'a>, Kind),
+    /// The first word is a path, and the second a task's number.
+    Turned(Placed<'a>, Placed<'a>),
     Below(Placed<'a>, u32),
     Above(Placed<'a>, u32),
     /// The first of the daemon's watermarks is above the second.
@@ -158,75 +169,249 @@ const TASK_WORDS: &str = "write, read, fwrite, fread, fork, free or exit";
 const LINE_WORDS: &str =
     "a task's number, group, rmdir, task, attach, set, cat, prot, lowprot, daemon, begin, step, finish, go or a word of the header";
 
-impl fmt::Display for Why<'_> {
+/// What a sentence has besides its fixed words.
+#[derive(Clone, Copy)]
+enum Part<'a> {
+    Word(Placed<'a>),
+    Number(u64),
+    /// In hexadecimal.
+    Byte(u8),
+    /// A word of the language, or several.
+    Name(&'static str),
+    Kind(Kind),
+    Form(Form),
+    BadPath(BadPath<'a>),
+}
+
+impl fmt::Display for Part<'_> {
     fn fmt<W: Write>(&self, f: &mut Formatter<W>) -> fmt::Result {
         match self {
-            Why::Utf16 => f.write_str("the script is UTF-16; save it as UTF-8"),
-            Why::NoCharacter { place, byte } => write!(
-                f,
-                "byte {place} of the line, 0x{byte:02x}, is not valid UTF-8"
+            Part::Word(word) => write!(f, "{word}"),
+            Part::Number(number) => write!(f, "{number}"),
+            Part::Byte(byte) => write!(f, "0x{byte:02x}"),
+            Part::Name(name) => f.write_str(name),
+            Part::Kind(kind) => write!(f, "{}", Wanted(*kind)),
+            Part::Form(form) => write!(f, "{}", Takes(*form)),
+            Part::BadPath(path) => write!(f, "{path}"),
+        }
+    }
+}
+
+/// At most two parts, between fixed words.
+fn sentence<'a>(
+    begin: &'static str,
+    first: Option<Part<'a>>,
+    middle: &'static str,
+    second: Option<Part<'a>>,
+    end: &'static str,
+) -> Sentence<Part<'a>> {
+    Sentence {
+        begin,
+        first,
+        middle,
+        second,
+        end,
+        last: None,
+    }
+}
+
+fn fixed<'a>(text: &'static str) -> Sentence<Part<'a>> {
+    sentence(text, None, "", None, "")
+}
+
+fn with_one<'a>(begin: &'static str, part: Part<'a>, end: &'static str) -> Sentence<Part<'a>> {
+    sentence(begin, Some(part), end, None, "")
+}
+
+fn with_two<'a>(
+    begin: &'static str,
+    first: Part<'a>,
+    middle: &'static str,
+    second: Part<'a>,
+    end: &'static str,
+) -> Sentence<Part<'a>> {
+    sentence(begin, Some(first), middle, Some(second), end)
+}
+
+/// A word, and what is wrong with it.
+fn about<'a>(word: Placed<'a>, end: &'static str) -> Sentence<Part<'a>> {
+    with_one("", Part::Word(word), end)
+}
+
+/// The same, if that ends with another part.
+fn about_with<'a>(
+    word: Placed<'a>,
+    middle: &'static str,
+    part: Part<'a>,
+    end: &'static str,
+) -> Sentence<Part<'a>> {
+    with_two("", Part::Word(word), middle, part, end)
+}
+
+fn place(number: usize) -> Part<'static> {
+    Part::Number(number as u64)
+}
+
+impl<'a> Why<'a> {
+    fn sentence(self) -> Sentence<Part<'a>> {
+        match self {
+            Why::Utf16 => fixed("the script is UTF-16; save it as UTF-8"),
+            Why::NoCharacter { place: at, byte } => with_two(
+                "byte ",
+                place(at),
+                " of the line, ",
+                Part::Byte(byte),
+                ", is not valid UTF-8",
             ),
-            Why::ByteOrderMark(word) => write!(
-                f,
-                "{word} begins with a byte order mark; save the script without it"
+            Why::ByteOrderMark(word) => about(
+                word,
+                " begins with a byte order mark; save the script without it",
             ),
-            Why::NoWord(word) => write!(
-                f,
-                "{word} is not a command; a line begins with {LINE_WORDS}"
+            Why::NoWord(word) => about_with(
+                word,
+                " is not a command; a line begins with ",
+                Part::Name(LINE_WORDS),
+                "",
             ),
-            Why::TaskWord(word) => write!(f, "{word} needs a task's number before it"),
-            Why::NoTaskWord(word) => write!(f, "{word} is not a task's command; use {TASK_WORDS}"),
-            Why::NotBegun(word) => write!(f, "{word} cannot follow begin"),
-            Why::Misfit(word, kind) => write!(f, "{word} is not {}", Wanted(*kind)),
-            Why::NoTaskWordAt(number) => write!(
-                f,
-                "word {number} is missing; after a task's number use {TASK_WORDS}"
+            Why::NearWord(word, near) => about_with(
+                word,
+                " is not a command; did you mean ",
+                Part::Name(near),
+                "?",
             ),
-            Why::NoLineAt(number) => write!(
-                f,
-                "word {number} is missing; begin is followed by a command"
+            Why::NearTaskWord(word, near) => about_with(
+                word,
+                " is not a task's command; did you mean ",
+                Part::Name(near),
+                "?",
             ),
-            Why::Missing { number, form, kind } => write!(
-                f,
-                "word {number} ({}) is missing: {}",
-                Wanted(*kind),
-                Takes(*form)
+            Why::TaskWord(word) => about(word, " needs a task's number before it"),
+            Why::NoTaskWord(word) => about_with(
+                word,
+                " is not a task's command; use ",
+                Part::Name(TASK_WORDS),
+                "",
             ),
-            Why::Extra(word, form) => write!(f, "{word} is one too many: {}", Takes(*form)),
-            Why::NotDigits(word, kind) => write!(f, "{word} is not {}", Wanted(*kind)),
-            Why::Below(word, least) => write!(f, "{word} is below {least}, the smallest allowed"),
-            Why::Above(word, most) => write!(f, "{word} is above {most}, the largest allowed"),
-            Why::MarksTurned(low, high) => write!(
-                f,
-                "{low} is above {high}; the low watermark must not be above the high one"
+            Why::NotBegun(word) => about(word, " cannot follow begin"),
+            Why::Misfit(word, kind) => about_with(word, " is not ", Part::Kind(kind), ""),
+            Why::NoTaskWordAt(number) => with_two(
+                "word ",
+                place(number),
+                " is missing; after a task's number use ",
+                Part::Name(TASK_WORDS),
+                "",
             ),
-            Why::MarkAboveFrames(high, frames) => write!(
-                f,
-                "{high} is above the number of frames, {frames}"
+            Why::NoLineAt(number) => with_one(
+                "word ",
+                place(number),
+                " is missing; begin is followed by a command",
             ),
-            Why::Path(word, path) => write!(f, "{word} is not a group's path: it {path}"),
-            Why::Name(word, path) => write!(f, "{word} is not a file's name: it {path}"),
-            Why::HeaderEnded { line, name } => write!(
-                f,
-                "{name} must come before line {line}, which ends the header"
+            Why::Missing { number, form, kind } => Sentence {
+                begin: "word ",
+                first: Some(place(number)),
+                middle: " (",
+                second: Some(Part::Kind(kind)),
+                end: ") is missing: ",
+                last: Some(Part::Form(form)),
+            },
+            Why::Extra(word, form) => about_with(word, " is one too many: ", Part::Form(form), ""),
+            Why::NotDigits(word, kind) => about_with(word, " is not ", Part::Kind(kind), ""),
+            Why::Amount(word, kind, pages) => Sentence {
+                begin: "",
+                first: Some(Part::Word(word)),
+                middle: " is not ",
+                second: Some(Part::Kind(kind)),
+                end: "; so many bytes in pages of 4K: ",
+                last: Some(Part::Number(pages)),
+            },
+            Why::Range(word, kind) => about_with(
+                word,
+                " is not ",
+                Part::Kind(kind),
+                "; a line accesses one page",
             ),
-            Why::Twice { line, name } => write!(f, "line {line} already has {name}"),
-            Why::FileTwice(word, line) => write!(
-                f,
-                "{word} is already the name of the file in line {line}"
+            Why::Turned(path, number) => about_with(
+                path,
+                " and ",
+                Part::Word(number),
+                " are the wrong way round; the task's number comes first",
             ),
-            Why::FilesFull(most) => write!(
-                f,
-                "there are {most} files already; no more are possible"
+            Why::Below(word, least) => about_with(
+                word,
+                " is below ",
+                Part::Number(u64::from(least)),
+                ", the smallest allowed",
             ),
-            Why::BlocksFull(most) => write!(
-                f,
-                "swap and the files up to this line need more than {most} blocks"
+            Why::Above(word, most) => about_with(
+                word,
+                " is above ",
+                Part::Number(u64::from(most)),
+                ", the largest allowed",
             ),
-            Why::OnlyInSchedule(word) => write!(
-                f,
-                "{word} works in a schedule only; threads take no turns"
+            Why::MarksTurned(low, high) => about_with(
+                low,
+                " is above ",
+                Part::Word(high),
+                "; the low watermark must not be above the high one",
+            ),
+            Why::MarkAboveFrames(high, frames) => about_with(
+                high,
+                " is above the number of frames, ",
+                Part::Number(u64::from(frames)),
+                "",
+            ),
+            Why::Path(word, path) => about_with(
+                word,
+                " is not a group's path: it ",
+                Part::BadPath(path),
+                "",
+            ),
+            Why::Name(word, path) => about_with(
+                word,
+                " is not a file's name: it ",
+                Part::BadPath(path),
+                "",
+            ),
+            Why::HeaderEnded { line, name } => with_two(
+                "",
+                Part::Name(name),
+                " must come before line ",
+                place(line),
+                ", which ends the header",
+            ),
+            Why::Twice { line, name } => with_two(
+                "line ",
+                place(line),
+                " already has ",
+                Part::Name(name),
+                "",
+            ),
+            Why::FileTwice(word, line) => about_with(
+                word,
+                " is already the name of the file in line ",
+                place(line),
+                "",
+            ),
+            Why::FilesFull(most) => with_one(
+                "there are ",
+                place(most),
+                " files already; no more are possible",
+            ),
+            Why::BlocksFull(most) => with_one(
+                "swap and the files up to this line need more than ",
+                Part::Number(u64::from(most)),
+                " blocks",
+            ),
+            Why::OnlyInSchedule(word) => about(
+                word,
+                " works in a schedule only; threads take no turns",
             ),
         }
+    }
+}
+
+impl fmt::Display for Why<'_> {
+    fn fmt<W: Write>(&self, f: &mut Formatter<W>) -> fmt::Result {
+        write!(f, "{}", self.sentence())
     }
 }

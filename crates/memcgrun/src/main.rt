@@ -1,28 +1,42 @@
 //! `memcgrun schedule FILE` runs a script of memory control groups and prints its answers. `memcgrun run FILE` runs one
-//! on threads. `memcgrun chart FILE` draws what its groups are charged with. `memcgrun check FILE..` compares what
+//! on threads. `memcgrun explore FILE` runs one in every order of its turns. `memcgrun chart FILE` draws what its groups are charged with. `memcgrun check FILE..` compares what
 //! scripts print with what they expect.
 #![tactic(auto)]
 
+mod explore_args;
+mod scenario_args;
 mod told;
 mod words;
 
 ghost use Rattle.std.specs.Prelude.{◌≡◌, ◌≤◌};
 
+use explore_args::{Exploration, explore_bytes};
+use scenario_args::{Purpose, Scenario};
+use simulation::{
+    Prints, Values, expand, is_setting, looks_like_scenario, read_values, simulate, vary,
+};
+use std::alloc::Global;
 use std::fs::{File, OpenFile};
-use std::io::{BufWriter, ErrorKind, IsTerminal, Read, Write};
+use std::io::{BufWriter, ErrorKind, IsTerminal, LineWriter, Read, Write};
 use std::process::ExitCode;
 use std::rt::{Env, Files};
 use std::sync::Wait;
 use std::thread::Threads;
-use std::{env, io};
+use std::{env, io, str};
 use subcommands::{
-    Placement, chart, read_and_check, read_script, run_script, run_script_on_threads, status_of,
+    Options, chart, read_and_check, read_script, run_script, run_script_on_threads, status_of,
     status_of_run,
 };
-use told::{plain_name, tell_no_memory, tell_no_script, tell_no_text};
-use words::{Asked, Refused, Request, Subcommand};
+use told::{
+    plain_name, tell_no_memory, tell_no_script, tell_no_setting, tell_no_text, tell_no_values,
+    tell_scenario, tell_set_and_varied,
+};
+use words::{Asked, Refused, Request, Subcommand, text_about};
 
 const FAILED: u8 = 1;
+
+/// The file name that means standard input.
+const STANDARD_INPUT: &str = "-";
 
 const BAD_WORDS: u8 = 2;
 
@@ -40,6 +54,15 @@ fn open<R: Files, E: Write>(rt: &R, name: &str, err: &mut E) -> Option<R::File> 
             tell_no_script(err, name, &error);
             None
         }
+    }
+}
+
+/// The name of a file in messages.
+fn shown_name(file: &str) -> &str {
+    if file == STANDARD_INPUT {
+        "<stdin>"
+    } else {
+        file
     }
 }
 
@@ -65,14 +88,14 @@ fn run<R: Threads + Wait + Sync + AllocGlobal, I: Read, O: Write, E: Write>(
         Ok(bytes) => bytes,
         Err(fault) => return status_of(Err(fault), err),
     };
-    let name = match plain_name(alloc, request.file) {
+    let name = match plain_name(alloc, shown_name(request.file)) {
         Ok(name) => name,
         Err(_) => {
             tell_no_memory(err);
             return FAILED;
         }
     };
-    match request.subcommand {
+    let status = match request.subcommand {
         Subcommand::Schedule => {
             let ran = run_script(alloc, request.options, &name, &bytes, out, err);
             status_of(ran, err)
@@ -85,39 +108,85 @@ fn run<R: Threads + Wait + Sync + AllocGlobal, I: Read, O: Write, E: Write>(
             let ran = chart(alloc, request.options, kind, &name, &bytes, out);
             status_of(ran, err)
         }
+    };
+    if status != 0 && is_scenario(&bytes) {
+        tell_scenario(err, shown_name(request.file));
     }
+    status
 }
 
-/// Progress is shown only on a terminal. Answers are written in blocks, all of them before any message. On a terminal,
-/// or if progress is asked for, each answer is written as it comes.
-fn serve<R: Files + AllocGlobal + Threads + Wait + Sync, O: Write, E: Write>(
+/// Runs the script of a file, or of standard input if the file is `-`.
+fn serve<R: Files + AllocGlobal + Threads + Wait + Sync, I: Read, O: Write, E: Write>(
     rt: &R,
-    mut request: Request<'_>,
+    request: Request<'_>,
     terminals: Terminals,
+    input: &mut I,
     out: &mut O,
     err: &mut E,
 ) -> u8
     ensures success_or_failure { result ≤ 1 }
 {
-    let Some(mut script) = open(rt, request.file, err) else {
-        return FAILED;
-    };
-    let as_they_come = terminals.out || request.is_unbuffered || request.options.progress;
-    request.options.progress = request.options.progress && terminals.err;
-    if !as_they_come {
-        // If there is no memory for a block, they are written as they come, too.
-        if let Ok(mut blocks) = BufWriter::new(rt.alloc(), &mut *out) {
-            return run(rt, request, &mut script, &mut blocks, err);
-        }
+    if request.file == STANDARD_INPUT {
+        return run_from(rt, request, terminals, input, out, err);
     }
-    run(rt, request, &mut script, out, err)
+    match open(rt, request.file, err) {
+        Some(mut script) => run_from(rt, request, terminals, &mut script, out, err),
+        None => FAILED,
+    }
 }
 
-/// Checks the scripts of these files, one after the other, whatever the results of those before.
-fn check_all<R: Files + AllocGlobal, O: Write, E: Write>(
+/// Progress is shown on a terminal in place, and elsewhere in a line each 10,000 lines. How many lines failed is said only
+/// on a terminal. Answers are written in blocks, all of them before any message. On a terminal, or if progress is asked
+/// for, each answer is written as it comes. Each line of a summary is written in one piece.
+fn run_from<R: AllocGlobal + Threads + Wait + Sync, I: Read, O: Write, E: Write>(
     rt: &R,
-    placement: Placement,
+    mut request: Request<'_>,
+    terminals: Terminals,
+    script: &mut I,
+    out: &mut O,
+    err: &mut E,
+) -> u8
+    ensures success_or_failure { result ≤ 1 }
+{
+    request.is_unbuffered = terminals.out || request.is_unbuffered || request.options.progress;
+    request.options.progress_lines = request.options.progress && !terminals.err;
+    request.options.progress = request.options.progress && terminals.err;
+    request.options.refusals = terminals.err;
+    // What a terminal shows in place ends no line.
+    if !request.options.progress {
+        // If there is no memory for a line, its parts are written as they come.
+        if let Ok(mut lines) = LineWriter::new(rt.alloc(), &mut *err) {
+            return run_into(rt, request, script, out, &mut lines);
+        }
+    }
+    run_into(rt, request, script, out, err)
+}
+
+/// Runs the script, and writes its answers in blocks unless they are to be written as they come.
+fn run_into<R: AllocGlobal + Threads + Wait + Sync, I: Read, O: Write, E: Write>(
+    rt: &R,
+    request: Request<'_>,
+    script: &mut I,
+    out: &mut O,
+    err: &mut E,
+) -> u8
+    ensures success_or_failure { result ≤ 1 }
+{
+    if !request.is_unbuffered {
+        // If there is no memory for a block, they are written as they come, too.
+        if let Ok(mut blocks) = BufWriter::new(rt.alloc(), &mut *out) {
+            return run(rt, request, script, &mut blocks, err);
+        }
+    }
+    run(rt, request, script, out, err)
+}
+
+/// Checks the scripts and scenarios of these files, one after the other, whatever the results of those before.
+fn check_all<R: Files + AllocGlobal, I: Read, O: Write, E: Write>(
+    rt: &R,
+    options: Options,
     files: &[&str],
+    input: &mut I,
     out: &mut O,
     err: &mut E,
 ) -> u8
@@ -125,13 +194,317 @@ fn check_all<R: Files + AllocGlobal, O: Write, E: Write>(
 {
     let mut all_met = true;
     for file in files {
-        let status = match open(rt, file, err) {
-            Some(mut script) => read_and_check(rt.alloc(), placement, file, &mut script, out, err),
-            None => FAILED,
-        };
+        let status = check_one(rt, options, file, input, out, err);
         all_met = all_met && status == 0;
     }
     if all_met { 0 } else { FAILED }
+}
+
+/// Checks the script or scenario of a file, or of standard input if the file is `-`.
+fn check_one<R: Files + AllocGlobal, I: Read, O: Write, E: Write>(
+    rt: &R,
+    options: Options,
+    file: &str,
+    input: &mut I,
+    out: &mut O,
+    err: &mut E,
+) -> u8
+    ensures success_or_failure { result ≤ 1 }
+{
+    let alloc = rt.alloc();
+    if file == STANDARD_INPUT {
+        return check_text(alloc, options, shown_name(file), input, out, err);
+    }
+    match open(rt, file, err) {
+        Some(mut text) => check_text(alloc, options, file, &mut text, out, err),
+        None => FAILED,
+    }
+}
+
+/// Checks a text, which is a script or a scenario.
+fn check_text<I: Read, O: Write, E: Write>(
+    alloc: Global,
+    options: Options,
+    name: &str,
+    text: &mut I,
+    out: &mut O,
+    err: &mut E,
+) -> u8
+    ensures success_or_failure { result ≤ 1 }
+{
+    let bytes = match read_script(alloc, text) {
+        Ok(bytes) => bytes,
+        Err(fault) => {
+            // The status reports the failure even if its line can't be written.
+            let _ = write!(err, "{name}: ");
+            return status_of(Err(fault), err);
+        }
+    };
+    if is_scenario(&bytes) {
+        return check_scenario(alloc, name, &bytes, out, err);
+    }
+    let mut script = bytes.as_slice();
+    read_and_check(alloc, options, name, &mut script, out, err)
+}
+
+/// Explores the script of a file, or of standard input if the file is `-`.
+fn serve_exploration<R: Files + AllocGlobal, I: Read, O: Write, E: Write>(
+    rt: &R,
+    exploration: &Exploration<'_>,
+    input: &mut I,
+    out: &mut O,
+    err: &mut E,
+) -> u8
+    ensures success_or_failure { result ≤ 1 }
+{
+    if exploration.file == STANDARD_INPUT {
+        return explore_from(rt.alloc(), exploration, input, out, err);
+    }
+    match open(rt, exploration.file, err) {
+        Some(mut script) => explore_from(rt.alloc(), exploration, &mut script, out, err),
+        None => FAILED,
+    }
+}
+
+/// The same for a script that is to be read.
+fn explore_from<I: Read, O: Write, E: Write>(
+    alloc: Global,
+    exploration: &Exploration<'_>,
+    script: &mut I,
+    out: &mut O,
+    err: &mut E,
+) -> u8
+    ensures success_or_failure { result ≤ 1 }
+{
+    let bytes = match read_script(alloc, script) {
+        Ok(bytes) => bytes,
+        Err(fault) => return status_of(Err(fault), err),
+    };
+    let Ok(name) = plain_name(alloc, shown_name(exploration.file)) else {
+        tell_no_memory(err);
+        return FAILED;
+    };
+    let status = explore_bytes(alloc, exploration, &name, &bytes, out, err);
+    if status != 0 && is_scenario(&bytes) {
+        tell_scenario(err, shown_name(exploration.file));
+    }
+    status
+}
+
+/// Whether a text looks like a scenario.
+fn is_scenario(bytes: &[u8]) -> bool {
+    match str::from_utf8(bytes) {
+        Ok(text) => looks_like_scenario(text),
+        Err(_) => false,
+    }
+}
+
+/// Checks a scenario: it is run, and what is not as expected is printed.
+fn check_scenario<O: Write, E: Write>(
+    alloc: Global,
+    name: &str,
+    bytes: &[u8],
+    out: &mut O,
+    err: &mut E,
+) -> u8
+    ensures success_or_failure { result ≤ 1 }
+{
+    let asked = simulation::Asked {
+        name,
+        settings: &[],
+        go_on: false,
+        prints: Prints::Unmet,
+        every: 1,
+        groups: &[],
+        depth: None,
+    };
+    simulate(alloc, &asked, bytes, out, err)
+}
+
+/// What is done with a scenario that is to be read.
+#[derive(Clone, Copy)]
+struct Job<'a> {
+    scenario: &'a Scenario<'a>,
+    /// The values of a name. The scenario is run once for each.
+    values: Option<&'a Values<'a>>,
+    terminals: Terminals,
+}
+
+impl<'a> Job<'a> {
+    fn with_values(
+        scenario: &'a Scenario<'a>,
+        values: &'a Values<'a>,
+        terminals: Terminals,
+    ) -> Job<'a> {
+        Job {
+            scenario,
+            values: Some(values),
+            terminals,
+        }
+    }
+}
+
+/// Expands or simulates a scenario that was read.
+fn work<R: AllocGlobal + Threads + Sync, O: Write, E: Write>(
+    rt: &R,
+    job: Job<'_>,
+    text: &[u8],
+    out: &mut O,
+    err: &mut E,
+) -> u8
+    ensures success_or_failure { result ≤ 1 }
+{
+    let alloc = rt.alloc();
+    let scenario = job.scenario;
+    let Ok(name) = plain_name(alloc, shown_name(scenario.file)) else {
+        tell_no_memory(err);
+        return FAILED;
+    };
+    let settings = scenario.settings.as_slice();
+    match &scenario.purpose {
+        Purpose::Expand(lengths) => expand(
+            alloc,
+            &name,
+            text,
+            settings,
+            lengths.as_slice(),
+            out,
+            err,
+        ),
+        Purpose::Simulate(wish) => {
+            let asked = simulation::Asked {
+                name: &name,
+                settings,
+                go_on: wish.go_on,
+                prints: wish.prints,
+                every: wish.every,
+                groups: wish.groups.as_slice(),
+                depth: wish.depth,
+            };
+            match job.values {
+                None => simulate(alloc, &asked, text, out, err),
+                Some(values) => vary(rt, alloc, &asked, values, text, out, err),
+            }
+        }
+    }
+}
+
+/// The same for one that is to be read. What it prints is written in blocks, and on a terminal as it comes.
+fn work_from<R: AllocGlobal + Threads + Sync, I: Read, O: Write, E: Write>(
+    rt: &R,
+    job: Job<'_>,
+    input: &mut I,
+    out: &mut O,
+    err: &mut E,
+) -> u8
+    ensures success_or_failure { result ≤ 1 }
+{
+    let alloc = rt.alloc();
+    let text = match read_script(alloc, input) {
+        Ok(text) => text,
+        Err(fault) => return status_of(Err(fault), err),
+    };
+    if !job.terminals.out {
+        if let Ok(mut blocks) = BufWriter::new(alloc, &mut *out) {
+            return work(rt, job, &text, &mut blocks, err);
+        }
+    }
+    work(rt, job, &text, out, err)
+}
+
+/// The same for one of a file, or of standard input if the file is `-`.
+fn work_on<R: Files + AllocGlobal + Threads + Sync, I: Read, O: Write, E: Write>(
+    rt: &R,
+    job: Job<'_>,
+    input: &mut I,
+    out: &mut O,
+    err: &mut E,
+) -> u8
+    ensures success_or_failure { result ≤ 1 }
+{
+    if job.scenario.file == STANDARD_INPUT {
+        return work_from(rt, job, input, out, err);
+    }
+    match open(rt, job.scenario.file, err) {
+        Some(mut file) => work_from(rt, job, &mut file, out, err),
+        None => FAILED,
+    }
+}
+
+/// Whether each setting is one. Otherwise a line names the first that is not.
+fn are_settings<E: Write>(settings: &[&str], err: &mut E) -> bool {
+    for text in settings {
+        if !is_setting(text) {
+            tell_no_setting(err, text);
+            return false;
+        }
+    }
+    true
+}
+
+/// The values that a text of `--vary` gives. Otherwise a line says what is wrong.
+fn values_in<'a, E: Write>(
+    alloc: Global,
+    text: &'a str,
+    settings: &[&str],
+    err: &mut E,
+) -> Option<Values<'a>> {
+    let values = match read_values(alloc, text) {
+        Ok(values) => values,
+        Err(fault) => {
+            tell_no_values(err, text, fault);
+            return None;
+        }
+    };
+    for setting in settings {
+        if let Some((name, _)) = setting.split_once('=') {
+            if name == values.name {
+                tell_set_and_varied(err, name);
+                return None;
+            }
+        }
+    }
+    Some(values)
+}
+
+/// The text of `--vary`, if it is given.
+fn varied<'a>(scenario: &Scenario<'a>) -> Option<&'a str> {
+    match &scenario.purpose {
+        Purpose::Expand(_) => None,
+        Purpose::Simulate(wish) => wish.vary,
+    }
+}
+
+/// Expands or simulates the scenario that is asked for, if the words of its options are right.
+fn serve_scenario<R: Files + AllocGlobal + Threads + Sync, I: Read, O: Write, E: Write>(
+    rt: &R,
+    scenario: &Scenario<'_>,
+    terminals: Terminals,
+    input: &mut I,
+    out: &mut O,
+    err: &mut E,
+) -> u8
+    ensures a_known_status { result ≤ 2 }
+{
+    let settings = scenario.settings.as_slice();
+    if !are_settings(settings, err) {
+        return BAD_WORDS;
+    }
+    let Some(text) = varied(scenario) else {
+        let job = Job {
+            scenario: &*scenario,
+            values: None,
+            terminals,
+        };
+        return work_on(rt, job, input, out, err);
+    };
+    match values_in(rt.alloc(), text, settings, err) {
+        None => BAD_WORDS,
+        Some(values) => {
+            let job = Job::with_values(&*scenario, &values, terminals);
+            work_on(rt, job, input, out, err)
+        }
+    }
 }
 
 fn given_words<R: Env + AllocGlobal>(rt: &R) -> io::Result<Vec<String>> {
@@ -153,9 +526,10 @@ fn show<O: Write, E: Write>(out: &mut O, err: &mut E, text: &clap::Error) -> u8
 
 /// The status: 0 for a script that was run, for help and for the version; 1 for a script that wasn't run; 2 for a
 /// command line that asks for nothing.
-fn start<R: Env + Files + AllocGlobal + Threads + Wait + Sync, O: Write, E: Write>(
+fn start<R: Env + Files + AllocGlobal + Threads + Wait + Sync, I: Read, O: Write, E: Write>(
     rt: &R,
     terminals: Terminals,
+    input: &mut I,
     out: &mut O,
     err: &mut E,
 ) -> u8
@@ -173,12 +547,19 @@ fn start<R: Env + Files + AllocGlobal + Threads + Wait + Sync, O: Write, E: Writ
         }
     };
     match words::read_words(rt.alloc(), &words) {
-        Ok(Asked::Script(request)) => serve(rt, request, terminals, out, err),
-        Ok(Asked::Check(placement, files)) => check_all(rt, placement, &files, out, err),
+        Ok(Asked::Script(request)) => serve(rt, request, terminals, input, out, err),
+        Ok(Asked::Check(options, files)) => check_all(rt, options, &files, input, out, err),
+        Ok(Asked::Explore(exploration)) => { serve_exploration(rt, &exploration, input, out, err) }
+        Ok(Asked::Scenario(scenario)) => {
+            serve_scenario(rt, &scenario, terminals, input, out, err)
+        }
         Err(Refused::Text(text)) if !text.use_stderr() => show(out, err, &text),
-        Err(Refused::Text(text)) => {
+        Err(Refused::Text(error)) => {
             // The status reports the failure even if its text can't be written.
-            let _ = write!(err, "{text}");
+            let _ = match text_about(rt.alloc(), &error) {
+                Ok(text) => write!(err, "{text}"),
+                Err(_) => write!(err, "{error}"),
+            };
             BAD_WORDS
         }
         Err(Refused::Memory) => {
@@ -193,5 +574,65 @@ fn main(rt: HostRuntime) -> ExitCode {
         out: rt.stdout().is_terminal(),
         err: rt.stderr().is_terminal(),
     };
-    ExitCode::from(start(&rt, terminals, &mut rt.stdout(), &mut rt.stderr()))
+    ExitCode::from(start(
+        &rt,
+        terminals,
+        &mut rt.stdin(),
+        &mut rt.stdout(),
+        &mut rt.stderr(),
+    ))
+}
+
+#[cfg(test)]
+mod tests {
+    use super::*;
+    use std::str;
+
+    // Counts what it is given, and notes whether each piece ends a line.
+    struct Pieces {
+        count: usize,
+        end_lines: bool,
+    }
+
+    impl Write for Pieces {
+        fn write(&mut self, buf: &[u8]) -> io::Result<usize> {
+            self.count = self.count.saturating_add(1);
+            self.end_lines = self.end_lines && buf.ends_with(b"\n");
+            Ok(buf.len())
+        }
+
+        fn flush(&mut self) -> io::Result<()> {
+            Ok(())
+        }
+    }
+
+    #[test]
+    fn each_line_of_a_summary_is_written_in_one_piece(rt: HostRuntime) {
+        let request = Request {
+            subcommand: Subcommand::Schedule,
+            file: "a",
+            options: Options {
+                summary: true,
+                ..Options::default()
+            },
+            is_unbuffered: false,
+        };
+        let terminals = Terminals {
+            out: false,
+            err: false,
+        };
+        let mut script = b"group /a\nrmdir /b\n".as_slice();
+        let mut out = Vec::new(rt.alloc());
+        let mut err = Pieces {
+            count: 0,
+            end_lines: true,
+        };
+        let status = run_from(&rt, request, terminals, &mut script, &mut out, &mut err);
+        assert_eq!(rt; status, 0);
+        assert_eq!(rt; str::from_utf8(&out), Ok("error ENOENT\n"));
+        // After eleven lines, one says how many lines failed.
+        let Pieces { count, end_lines } = err;
+        assert_eq!(rt; count, 12);
+        assert!(rt; end_lines);
+    }
 }

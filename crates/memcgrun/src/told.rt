@@ -1,6 +1,7 @@
 //! The lines of standard error about the words of the command line. Each line names the word, in quotes and with its
 //! control characters written out.
 
+use simulation::{MOST_VALUES, ValuesFault};
 use std::alloc::{AllocError, Global};
 use std::env::FillError;
 use std::io::{ErrorKind, Write};
@@ -22,6 +23,54 @@ pub fn plain_name(alloc: Global, name: &str) -> Result<String, AllocError> {
 pub fn tell_no_memory<E: Write>(err: &mut E) {
     // The status reports the failure even if its line can't be written.
     let _ = writeln!(err, "memcgrun: out of memory");
+}
+
+/// Reports a text that is no setting.
+pub fn tell_no_setting<E: Write>(err: &mut E, text: &str) {
+    let _ = writeln!(err, "memcgrun: --set {text:?}: expected NAME=WORD");
+}
+
+/// Reports a text of `--vary` that gives no values.
+pub fn tell_no_values<E: Write>(err: &mut E, text: &str, fault: ValuesFault<'_>) {
+    // The status reports the failure even if its line can't be written.
+    let _ = match fault {
+        ValuesFault::Memory => writeln!(err, "memcgrun: out of memory"),
+        ValuesFault::Form => writeln!(
+            err,
+            "memcgrun: --vary {text:?}: expected NAME=FROM..TO/STEP or NAME=A,B,C"
+        ),
+        ValuesFault::Word(word) => {
+            writeln!(err, "memcgrun: --vary {text:?}: {word:?} is not a word")
+        }
+        ValuesFault::Amount(word) => writeln!(
+            err,
+            "memcgrun: --vary {text:?}: {word:?} is neither a size, as 1.5G or 7p, nor a whole number"
+        ),
+        ValuesFault::Units => writeln!(
+            err,
+            "memcgrun: --vary {text:?}: give FROM, TO and STEP all in pages, or none"
+        ),
+        ValuesFault::Order => writeln!(err, "memcgrun: --vary {text:?}: FROM is above TO"),
+        ValuesFault::NoStep => writeln!(err, "memcgrun: --vary {text:?}: STEP is 0"),
+        ValuesFault::TooMany => writeln!(
+            err,
+            "memcgrun: --vary {text:?}: more than {MOST_VALUES} values; take a larger STEP"
+        ),
+    };
+}
+
+/// Reports a name that has a word of its own and values too.
+pub fn tell_set_and_varied<E: Write>(err: &mut E, name: &str) {
+    let _ = writeln!(err, "memcgrun: {name:?} has both --set and --vary");
+}
+
+/// Reports that the file of a script has a scenario.
+pub fn tell_scenario<E: Write>(err: &mut E, name: &str) {
+    // The status reports the failure even if its line can't be written.
+    let _ = writeln!(
+        err,
+        "memcgrun: {name:?} looks like a scenario: use \"memcgrun simulate\""
+    );
 }
 
 /// Reports a file that gives no script.
@@ -125,6 +174,30 @@ mod tests {
         ];
         for (name, shown) in rows {
             assert_eq!(rt; plain_name(rt.alloc(), name)?.as_str(), shown);
+        }
+        Ok(())
+    }
+
+    #[test]
+    fn a_text_without_values_is_told(rt: HostRuntime) -> Result<(), Fail> {
+        let rows = [
+            (
+                ValuesFault::Form,
+                "memcgrun: --vary \"a=x\": expected NAME=FROM..TO/STEP or NAME=A,B,C\n",
+            ),
+            (
+                ValuesFault::Amount("5Q"),
+                "memcgrun: --vary \"a=x\": \"5Q\" is neither a size, as 1.5G or 7p, nor a whole number\n",
+            ),
+            (
+                ValuesFault::TooMany,
+                "memcgrun: --vary \"a=x\": more than 10000 values; take a larger STEP\n",
+            ),
+        ];
+        for (fault, line) in rows {
+            let mut err = Vec::new(rt.alloc());
+            tell_no_values(&mut err, "a=x", fault);
+            assert_eq!(rt; str::from_utf8(&err), Ok(line));
         }
         Ok(())
     }

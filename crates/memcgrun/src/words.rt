@@ -1,9 +1,11 @@
 //! The words of the command line.
 
+use crate::explore_args::{Exploration, exploration_of, explore};
+use crate::scenario_args::{Purpose, Scenario, expand, lengths_of, scenario_of, simulate, wish_of};
 use clap::error::ErrorKind;
 use clap::{Arg, ArgAction, ArgMatches, Command, Error, value_parser};
 use std::alloc::{AllocError, Global};
-use subcommands::{Drawing, Options, Placement};
+use subcommands::{Amounts, Drawing, Options, Placement};
 
 /// The program's version, and the logic in which it is proved, which `rt version` prints for a toolchain. What is
 /// proved depends on the logic, and not on the toolchain's number. `docs/check_commands` compares the logic.
@@ -25,8 +27,12 @@ pub enum Subcommand {
 pub enum Asked<'a> {
     /// To run a script.
     Script(Request<'a>),
-    /// To check the scripts of these paths, with this placement.
-    Check(Placement, Vec<&'a str>),
+    /// To check the scripts of these paths.
+    Check(Options, Vec<&'a str>),
+    /// To run a script in every order of its turns.
+    Explore(Exploration<'a>),
+    /// To expand or simulate a scenario.
+    Scenario(Scenario<'a>),
 }
 
 /// A subcommand and the path of its script.
@@ -68,13 +74,17 @@ const AS_LINUX: &str = "as-linux";
 
 const AUDIT: &str = "audit";
 
-const CSV: &str = "csv";
+pub const CSV: &str = "csv";
 
 const EXPLAIN: &str = "explain";
+
+const HUMAN: &str = "human";
 
 const LABELS: &str = "labels";
 
 const LINES: &str = "lines";
+
+const PAGES: &str = "pages";
 
 const PROGRESS: &str = "progress";
 
@@ -89,7 +99,7 @@ const TURNS: &str = "turns";
 const UNBUFFERED: &str = "unbuffered";
 
 /// An option that is given or not.
-fn flag<'a>(alloc: Global, name: &'a str, help: &'a str) -> Arg<'a> {
+pub fn flag<'a>(alloc: Global, name: &'a str, help: &'a str) -> Arg<'a> {
     Arg::new(alloc, name)
         .long(name)
         .action(ArgAction::SetTrue)
@@ -100,10 +110,10 @@ fn script<'a>(alloc: Global) -> Arg<'a> {
     Arg::new(alloc, "FILE")
         .required(true)
         .action(ArgAction::Set)
-        .help("Script to run")
+        .help("Script to run; - is standard input")
 }
 
-fn as_linux<'a>(alloc: Global) -> Arg<'a> {
+pub fn as_linux<'a>(alloc: Global) -> Arg<'a> {
     flag(
         alloc,
         AS_LINUX,
@@ -111,7 +121,7 @@ fn as_linux<'a>(alloc: Global) -> Arg<'a> {
     )
 }
 
-fn placement_of(matches: &ArgMatches<'_>) -> Placement {
+pub fn placement_of(matches: &ArgMatches<'_>) -> Placement {
     if matches.get_flag(AS_LINUX) {
         Placement::Linux
     } else {
@@ -119,7 +129,35 @@ fn placement_of(matches: &ArgMatches<'_>) -> Placement {
     }
 }
 
-/// The option as it is for subcommands that refuse no line.
+fn human<'a>(alloc: Global) -> Arg<'a> {
+    flag(
+        alloc,
+        HUMAN,
+        "Print amounts of memory in K, M, G or T, as 23.4M",
+    )
+}
+
+fn pages<'a>(alloc: Global) -> Result<Arg<'a>, AllocError> {
+    flag(
+        alloc,
+        PAGES,
+        "Print amounts of memory in pages of 4,096 bytes",
+    )
+    .conflicts_with(HUMAN)
+}
+
+/// How amounts are printed. The parser has taken one of the two options at most.
+fn amounts_of(matches: &ArgMatches<'_>) -> Amounts {
+    if matches.get_flag(HUMAN) {
+        Amounts::Human
+    } else if matches.get_flag(PAGES) {
+        Amounts::Pages
+    } else {
+        Amounts::Bytes
+    }
+}
+
+/// The option as it is for subcommands that print no answers.
 fn explain<'a>(alloc: Global) -> Arg<'a> {
     flag(
         alloc,
@@ -128,20 +166,38 @@ fn explain<'a>(alloc: Global) -> Arg<'a> {
     )
 }
 
+/// The option as it is for subcommands that say why a line was refused.
+fn explain_answers<'a>(alloc: Global) -> Arg<'a> {
+    flag(
+        alloc,
+        EXPLAIN,
+        "Print why each line failed and each task was killed, on standard error",
+    )
+}
+
 fn turns<'a>(alloc: Global) -> Arg<'a> {
     Arg::new(alloc, TURNS)
         .long(TURNS)
         .action(ArgAction::Set)
-        .value_parser(value_parser!(u32).range(1..))
-        .help("Maximum number of turns per line [default: 1000]")
+        .value_parser(value_parser!(u32))
+        .help("Maximum number of turns per line, 0 for no limit [default: 1000]")
         .value_name("N")
+}
+
+/// The most turns of a line. A machine needs less than 2^32 turns for any line, so that number is no limit.
+fn turns_of(matches: &ArgMatches<'_>) -> u32 {
+    match matches.get_one(TURNS) {
+        None => Options::default().turns,
+        Some(0) => u32::MAX,
+        Some(turns) => turns,
+    }
 }
 
 fn progress<'a>(alloc: Global) -> Arg<'a> {
     flag(
         alloc,
         PROGRESS,
-        "Show the number of finished lines on a terminal",
+        "Show how many lines are done; not on a terminal, each 10,000 lines",
     )
 }
 
@@ -163,11 +219,6 @@ fn schedule<'a>(alloc: Global) -> Result<Command<'a>, AllocError> {
         AUDIT,
         "After the last answer, print the result of auditing the run",
     );
-    let explain = flag(
-        alloc,
-        EXPLAIN,
-        "Print why each line failed and each task was killed, on standard error",
-    );
     let labels = flag(
         alloc,
         LABELS,
@@ -178,7 +229,11 @@ fn schedule<'a>(alloc: Global) -> Result<Command<'a>, AllocError> {
         LINES,
         "Print the number of its line before each answer",
     );
-    let quiet = flag(alloc, QUIET, "Do not print the bytes that tasks read");
+    let quiet = flag(
+        alloc,
+        QUIET,
+        "Do not print the bytes that tasks read, nor lines of killed tasks",
+    );
     let strict = flag(
         alloc,
         STRICT,
@@ -189,9 +244,11 @@ fn schedule<'a>(alloc: Global) -> Result<Command<'a>, AllocError> {
         .arg(script(alloc))?
         .arg(as_linux(alloc))?
         .arg(audit)?
-        .arg(explain)?
+        .arg(explain_answers(alloc))?
+        .arg(human(alloc))?
         .arg(labels)?
         .arg(lines)?
+        .arg(pages(alloc)?)?
         .arg(progress(alloc))?
         .arg(quiet)?
         .arg(strict)?
@@ -209,13 +266,18 @@ fn run<'a>(alloc: Global) -> Result<Command<'a>, AllocError> {
 }
 
 fn chart<'a>(alloc: Global) -> Result<Command<'a>, AllocError> {
+    let file = script(alloc).help(
+        "Script to run; - is standard input; a line `# mark NAME` begins a phase",
+    );
     let csv = flag(alloc, CSV, "Print a CSV table instead of the picture");
+    let strict = flag(alloc, STRICT, "Draw nothing if a line fails, and say why");
     Command::new(alloc, "chart")
         .about("Draw memory.current of each group over the lines of a script, as SVG")
-        .arg(script(alloc))?
+        .arg(file)?
         .arg(as_linux(alloc))?
         .arg(csv)?
         .arg(explain(alloc))?
+        .arg(strict)?
         .arg(turns(alloc))
 }
 
@@ -224,11 +286,25 @@ fn check<'a>(alloc: Global) -> Result<Command<'a>, AllocError> {
         .required(true)
         .num_args(1..)
         .action(ArgAction::Append)
-        .help("Scripts to check");
+        .help("Scripts and scenarios to check; - is standard input");
+    let labels = flag(
+        alloc,
+        LABELS,
+        "Print the number and the text of its line before an answer that differs",
+    );
+    let strict = flag(
+        alloc,
+        STRICT,
+        "Stop a script at the first line that fails, even if that is expected",
+    );
     Command::new(alloc, "check")
-        .about("Compare the output of scripts with their `#> ..` lines")
+        .about("Compare scripts with their `#> ..` lines, and scenarios with their `expect` lines")
         .arg(scripts)?
-        .arg(as_linux(alloc))
+        .arg(as_linux(alloc))?
+        .arg(explain_answers(alloc))?
+        .arg(labels)?
+        .arg(strict)?
+        .arg(turns(alloc))
 }
 
 fn command<'a>(alloc: Global) -> Result<Command<'a>, AllocError> {
@@ -239,20 +315,68 @@ fn command<'a>(alloc: Global) -> Result<Command<'a>, AllocError> {
         .subcommand(schedule(alloc)?)?
         .subcommand(run(alloc)?)?
         .subcommand(chart(alloc)?)?
-        .subcommand(check(alloc)?)
+        .subcommand(check(alloc)?)?
+        .subcommand(explore(alloc)?)?
+        .subcommand(simulate(alloc)?)?
+        .subcommand(expand(alloc)?)
+}
+
+/// What is asked of a check.
+fn checking_of(check: &ArgMatches<'_>) -> Options {
+    Options {
+        explain: check.get_flag(EXPLAIN),
+        labels: check.get_flag(LABELS),
+        placement: placement_of(check),
+        strict: check.get_flag(STRICT),
+        turns: turns_of(check),
+        ..Options::default()
+    }
+}
+
+/// Begins the line of a tip to name a script as an option is named. Scripts have no such names.
+const NAMED_SO: &str = "  tip: to pass '";
+
+/// The text for the user about words that ask for nothing, without such a tip.
+pub fn text_about(alloc: Global, error: &Error) -> Result<String, AllocError> {
+    let whole = format!(in alloc; "{error}")?;
+    let mut text = String::new(alloc);
+    let mut is_left_out = false;
+    for line in whole.lines() {
+        if line.starts_with(NAMED_SO) {
+            is_left_out = true;
+            continue;
+        }
+        // One of the blank lines around the tip is enough.
+        if is_left_out && line.is_empty() && text.ends_with("\n\n") {
+            continue;
+        }
+        text.push_str(line)?;
+        text.push('\n')?;
+    }
+    Ok(text)
 }
 
 /// Reads the words, the program's own name first. Words that ask for help or for the version are refused too. The text
 /// is the help or the version then.
 pub fn read_words<'a>(alloc: Global, words: &'a [String]) -> Result<Asked<'a>, Refused> {
     let matches = command(alloc)?.try_get_matches_from(words)?;
-    let usual = Options::default();
     // The subcommand and its FILE are required, so clap has found both.
     let request = match matches.subcommand() {
         Some(("check", check)) => {
             let files = check.get_strs("FILE").unwrap_or(&[]);
             let files = Vec::from_slice(alloc, files)?;
-            return Ok(Asked::Check(placement_of(check), files));
+            return Ok(Asked::Check(checking_of(check), files));
+        }
+        Some(("explore", explore)) => return Ok(Asked::Explore(exploration_of(explore))),
+        Some(("simulate", simulate)) => {
+            let wish = wish_of(alloc, simulate)?;
+            let scenario = scenario_of(alloc, simulate, Purpose::Simulate(wish))?;
+            return Ok(Asked::Scenario(scenario));
+        }
+        Some(("expand", expand)) => {
+            let lengths = lengths_of(alloc, expand)?;
+            let scenario = scenario_of(alloc, expand, Purpose::Expand(lengths))?;
+            return Ok(Asked::Scenario(scenario));
         }
         Some(("run", run)) => Request {
             subcommand: Subcommand::Run,
@@ -274,8 +398,9 @@ pub fn read_words<'a>(alloc: Global, words: &'a [String]) -> Result<Asked<'a>, R
             options: Options {
                 explain: chart.get_flag(EXPLAIN),
                 placement: placement_of(chart),
-                turns: chart.get_one(TURNS).unwrap_or(usual.turns),
-                ..usual
+                strict: chart.get_flag(STRICT),
+                turns: turns_of(chart),
+                ..Options::default()
             },
             is_unbuffered: false,
         },
@@ -283,6 +408,7 @@ pub fn read_words<'a>(alloc: Global, words: &'a [String]) -> Result<Asked<'a>, R
             subcommand: Subcommand::Schedule,
             file: schedule.get_str("FILE").unwrap_or(""),
             options: Options {
+                amounts: amounts_of(schedule),
                 audit: schedule.get_flag(AUDIT),
                 explain: schedule.get_flag(EXPLAIN),
                 labels: schedule.get_flag(LABELS),
@@ -292,7 +418,8 @@ pub fn read_words<'a>(alloc: Global, words: &'a [String]) -> Result<Asked<'a>, R
                 quiet: schedule.get_flag(QUIET),
                 strict: schedule.get_flag(STRICT),
                 summary: schedule.get_flag(SUMMARY),
-                turns: schedule.get_one(TURNS).unwrap_or(usual.turns),
+                turns: turns_of(schedule),
+                ..Options::default()
             },
             is_unbuffered: schedule.get_flag(UNBUFFERED),
         },
@@ -309,6 +436,7 @@ pub fn read_words<'a>(alloc: Global, words: &'a [String]) -> Result<Asked<'a>, R
 #[cfg(test)]
 mod tests {
     use super::*;
+    use simulation::Prints;
     use std::test::Fail;
 
     fn words_of(alloc: Global, line: &str) -> Result<Vec<String>, Fail> {
@@ -350,6 +478,20 @@ mod tests {
                 "memcgrun schedule --explain -- a",
                 Options {
                     explain: true,
+                    ..none
+                },
+            ),
+            (
+                "memcgrun schedule --human a",
+                Options {
+                    amounts: Amounts::Human,
+                    ..none
+                },
+            ),
+            (
+                "memcgrun schedule a --pages",
+                Options {
+                    amounts: Amounts::Pages,
                     ..none
                 },
             ),
@@ -424,6 +566,7 @@ mod tests {
             ("memcgrun schedule --turns 1 a", 1),
             ("memcgrun schedule a --turns 4294967295", 4_294_967_295),
             ("memcgrun schedule --turns=25000 a", 25_000),
+            ("memcgrun schedule --turns 0 a", u32::MAX),
         ];
         for (line, turns) in rows {
             let words = words_of(rt.alloc(), line)?;
@@ -519,11 +662,11 @@ mod tests {
             assert_eq!(rt; request.options, options, "{line}");
         }
         let words = words_of(rt.alloc(), "memcgrun check --as-linux a b")?;
-        let Ok(Asked::Check(placement, files)) = read_words(rt.alloc(), &words) else {
+        let Ok(Asked::Check(asked, files)) = read_words(rt.alloc(), &words) else {
             return Err("refused".into());
         };
         assert_eq!(rt; files.as_slice(), ["a", "b"].as_slice());
-        assert_eq!(rt; placement, Placement::Linux);
+        assert_eq!(rt; asked, options);
         Ok(())
     }
 
@@ -536,12 +679,153 @@ mod tests {
         ];
         for (line, wanted) in rows {
             let words = words_of(rt.alloc(), line)?;
-            let Ok(Asked::Check(placement, files)) = read_words(rt.alloc(), &words) else {
+            let Ok(Asked::Check(options, files)) = read_words(rt.alloc(), &words) else {
                 return Err("refused".into());
             };
             assert_eq!(rt; files.as_slice(), wanted, "{line}");
-            assert_eq!(rt; placement, Placement::Own, "{line}");
+            assert_eq!(rt; options, Options::default(), "{line}");
         }
+        Ok(())
+    }
+
+    #[test]
+    fn a_check_heeds_options(rt: HostRuntime) -> Result<(), Fail> {
+        let line = "memcgrun check --strict --labels a --explain --turns 0";
+        let words = words_of(rt.alloc(), line)?;
+        let Ok(Asked::Check(options, files)) = read_words(rt.alloc(), &words) else {
+            return Err("refused".into());
+        };
+        let wanted = Options {
+            explain: true,
+            labels: true,
+            strict: true,
+            turns: u32::MAX,
+            ..Options::default()
+        };
+        assert_eq!(rt; files.as_slice(), ["a"].as_slice());
+        assert_eq!(rt; options, wanted);
+        Ok(())
+    }
+
+    #[test]
+    fn a_strict_chart_is_asked_for(rt: HostRuntime) -> Result<(), Fail> {
+        let words = words_of(rt.alloc(), "memcgrun chart --strict a")?;
+        let Ok(Asked::Script(request)) = read_words(rt.alloc(), &words) else {
+            return Err("refused".into());
+        };
+        let options = Options {
+            strict: true,
+            ..Options::default()
+        };
+        assert_eq!(rt; request.subcommand, Subcommand::Chart(Drawing::Picture));
+        assert_eq!(rt; request.options, options);
+        Ok(())
+    }
+
+    #[test]
+    fn no_script_is_named_as_an_option(rt: HostRuntime) -> Result<(), Fail> {
+        let rows = [
+            (
+                "memcgrun run --strict a",
+                "error: unexpected argument '--strict' found\n\nUsage: memcgrun run [OPTIONS] <FILE>\n\nFor more information, try '--help'.\n",
+            ),
+            (
+                "memcgrun check --labls a",
+                "error: unexpected argument '--labls' found\n\n  tip: a similar argument exists: '--labels'\n\nUsage: memcgrun check --labels <FILE>...\n\nFor more information, try '--help'.\n",
+            ),
+            (
+                "memcgrun check --quiet a",
+                "error: unexpected argument '--quiet' found\n\nUsage: memcgrun check [OPTIONS] <FILE>...\n\nFor more information, try '--help'.\n",
+            ),
+        ];
+        for (line, wanted) in rows {
+            let words = words_of(rt.alloc(), line)?;
+            let Err(Refused::Text(error)) = read_words(rt.alloc(), &words) else {
+                return Err("not refused".into());
+            };
+            assert_eq!(rt; text_about(rt.alloc(), &error)?.as_str(), wanted);
+        }
+        Ok(())
+    }
+
+    #[test]
+    fn an_exploration_is_asked_for(rt: HostRuntime) -> Result<(), Fail> {
+        let line = "memcgrun explore --show 2 --orders 7 a --turns 9 --expect-one --as-linux";
+        let words = words_of(rt.alloc(), line)?;
+        let Ok(Asked::Explore(exploration)) = read_words(rt.alloc(), &words) else {
+            return Err("refused".into());
+        };
+        assert_eq!(rt; exploration.file, "a");
+        assert!(rt; exploration.expects_one);
+        assert_eq!(rt;
+            exploration.asked,
+            explore::Asked {
+                orders: 7,
+                turns: 9,
+                placement: Placement::Linux,
+                show: Some(2),
+            }
+        );
+        let words = words_of(rt.alloc(), "memcgrun explore a")?;
+        let Ok(Asked::Explore(exploration)) = read_words(rt.alloc(), &words) else {
+            return Err("refused".into());
+        };
+        assert!(rt; !exploration.expects_one);
+        assert_eq!(rt; exploration.asked, explore::Asked::default());
+        Ok(())
+    }
+
+    #[test]
+    fn a_scenario_is_asked_for(rt: HostRuntime) -> Result<(), Fail> {
+        let words = words_of(
+            rt.alloc(),
+            "memcgrun simulate x --set a=1 --go-on --set b=2 --json --groups /a --groups /b --every 5 --depth 2",
+        )?;
+        let Ok(Asked::Scenario(scenario)) = read_words(rt.alloc(), &words) else {
+            return Err("refused".into());
+        };
+        assert_eq!(rt; scenario.file, "x");
+        assert_eq!(rt; scenario.settings.as_slice(), ["a=1", "b=2"].as_slice());
+        let Purpose::Simulate(wish) = &scenario.purpose else {
+            return Err("not simulated".into());
+        };
+        assert!(rt; wish.go_on);
+        assert_eq!(rt; wish.prints, Prints::Json);
+        assert_eq!(rt; wish.every, 5);
+        assert_eq!(rt; wish.groups.as_slice(), ["/a", "/b"].as_slice());
+        assert_eq!(rt; wish.depth, Some(2));
+        Ok(())
+    }
+
+    #[test]
+    fn values_are_asked_for(rt: HostRuntime) -> Result<(), Fail> {
+        let words = words_of(
+            rt.alloc(),
+            "memcgrun simulate x --vary max=1M..5M/1M --csv --set a=1",
+        )?;
+        let Ok(Asked::Scenario(scenario)) = read_words(rt.alloc(), &words) else {
+            return Err("refused".into());
+        };
+        assert_eq!(rt; scenario.settings.as_slice(), ["a=1"].as_slice());
+        let Purpose::Simulate(wish) = &scenario.purpose else {
+            return Err("not simulated".into());
+        };
+        assert_eq!(rt; wish.vary, Some("max=1M..5M/1M"));
+        assert_eq!(rt; wish.prints, Prints::Csv);
+        Ok(())
+    }
+
+    #[test]
+    fn a_script_of_a_scenario_is_asked_for(rt: HostRuntime) -> Result<(), Fail> {
+        let words = words_of(rt.alloc(), "memcgrun expand --cuts 3,0 x")?;
+        let Ok(Asked::Scenario(scenario)) = read_words(rt.alloc(), &words) else {
+            return Err("refused".into());
+        };
+        assert_eq!(rt; scenario.file, "x");
+        let Purpose::Expand(lengths) = &scenario.purpose else {
+            return Err("not expanded".into());
+        };
+        assert_eq!(rt; lengths.as_slice(), [3, 0].as_slice());
         Ok(())
     }
 
@@ -565,6 +849,8 @@ mod tests {
             ("memcgrun schedule --explain", false),
             ("memcgrun schedule --lines --lines a", false),
             ("memcgrun --summary schedule a", false),
+            ("memcgrun schedule --human --pages a", false),
+            ("memcgrun check --human a", false),
             ("memcgrun schedule --turns -1 a", false),
             ("memcgrun schedule --turns 1 --turns 2 a", false),
             ("memcgrun --explain schedule a", false),
@@ -577,8 +863,21 @@ mod tests {
             ("memcgrun check", false),
             ("memcgrun check --lines a", false),
             ("memcgrun check --help", true),
+            ("memcgrun simulate", false),
+            ("memcgrun simulate --cuts 1 a", false),
+            ("memcgrun simulate --csv --json a", false),
+            ("memcgrun simulate --chart --csv a", false),
+            ("memcgrun simulate --chart --json a", false),
+            ("memcgrun simulate --every 2 a", false),
+            ("memcgrun simulate --vary a=1 --chart a", false),
+            ("memcgrun simulate --vary a=1 --vary b=2 a", false),
+            ("memcgrun expand --go-on a", false),
+            ("memcgrun expand --help", true),
             ("memcgrun chart", false),
             ("memcgrun chart --audit a", false),
+            ("memcgrun explore", false),
+            ("memcgrun explore --strict a", false),
+            ("memcgrun explore --help", true),
             ("memcgrun walk a", false),
             ("memcgrun chart --help", true),
             ("memcgrun run --help", true),
@@ -598,10 +897,23 @@ mod tests {
     }
 
     #[test]
+    fn rounds_that_are_no_number_are_told(rt: HostRuntime) -> Result<(), Fail> {
+        for line in [
+            "memcgrun simulate --chart --every x a",
+            "memcgrun simulate --csv --every=-1 a",
+        ] {
+            let (text, asked) = text_of(rt.alloc(), line)?;
+            assert!(rt; text.contains("'--every"), "{line}: {text}");
+            assert!(rt; !asked, "{line}");
+        }
+        Ok(())
+    }
+
+    #[test]
     fn turns_that_are_no_number_are_told(rt: HostRuntime) -> Result<(), Fail> {
         let lines = [
             "memcgrun schedule --turns a",
-            "memcgrun schedule --turns 0 a",
+            "memcgrun schedule --turns 1.5 a",
             "memcgrun chart --turns 4294967296 a",
         ];
         for line in lines {

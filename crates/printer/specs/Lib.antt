@@ -1,3 +1,4 @@
+pub mod Amounts
 pub mod Asked
 pub mod Paths
 pub mod Prints

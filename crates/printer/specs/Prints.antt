@@ -1,5 +1,5 @@
 -- What a run prints.
-use Rattle.std.specs.Prelude.{◌≡◌, ℕ, if◌then◌else◌, not, Bool, true, false, List, [], ◌∷◌, ◌++◌, Option, take, codes, filter}
+use Rattle.std.specs.Prelude.{◌≡◌, ℕ, if◌then◌else◌, not, Bool, true, false, List, [], ◌∷◌, ◌++◌, Option, take, codes, filter, map}
 use Rattle.std.specs.List.{list_any}
 use Rattle.std.specs.Io.KnownBytes.{Appends}
 use Rattle.machine.specs.declared.config.Config.{Config}
@@ -15,6 +15,7 @@ use Rattle.block_store.specs.Device.{Disk}
 use Rattle.driver.specs.Schedule.{Schedules}
 use Rattle.driver.specs.Sinks.{Starts}
 use Rattle.printer.specs.declared.options.Options.{Options}
+use Rattle.printer.specs.Amounts.{reply_in}
 use Rattle.printer.specs.declared.stopped.Stopped.{Stopped}
 use Rattle.printer.specs.declared.stopped.Stopped.TheVariants.{Unwritten, Refused}
 
@@ -23,14 +24,24 @@ abbrev pub texts : List Reply → List ℕ
 texts [] = []
 texts (reply ∷ replies) = printed reply ++ texts replies
 
--- a task read a byte
-abbrev pub is_byte : Answer → Bool
-is_byte (answer.Byte byte) = true
-is_byte other = false
+-- the task of a command was killed
+abbrev pub is_killed : Said → Bool
+is_killed word.Killed = true
+is_killed other = false
 
--- of the answers, those that are printed: all, or all but the bytes that tasks read. (Excludes other answers that are kept back.)
+-- a task read a byte, or its command ended with its death
+abbrev pub is_minor : Answer → Bool
+is_minor (answer.Byte byte) = true
+is_minor (answer.Word said) = is_killed said
+is_minor other = false
+
+-- of the answers, those that are printed: all, or all but the bytes that tasks read and the commands of killed tasks. (Excludes other answers that are kept back.)
+abbrev pub kept_by : Bool → List Reply → List Reply
+kept_by quiet answers = if quiet then filter (λ (reply : Reply). not (is_minor reply.answer)) answers else answers
+
+-- these, with the amounts of memory in them as the options ask for
 abbrev pub shown_by : Options → List Reply → List Reply
-shown_by options answers = if options.quiet then filter (λ (reply : Reply). not (is_byte reply.answer)) answers else answers
+shown_by options answers = map (reply_in options.amounts) (kept_by options.quiet answers)
 
 -- the word says that a line did not do what it asks for. (That a task was killed is an event of the machine.)
 abbrev pub is_refusing : Said → Bool

@@ -1,5 +1,6 @@
 -- What a printer does with no answer, and with answers one behind the other. These are proofs: those of the laws of a `Sink`, which takes none from `proofs`. No public clause cites this.
-use Rattle.std.proofs.Common.{◌≡◌, ℕ, ◌+◌, ◌||◌, Bool, true, false, not, List, [], ◌∷◌, ◌++◌, Option, length, take, filter, cond, refl, sym, ap, ◌∙◌, subst, append_assoc}
+use Rattle.std.proofs.Common.{◌≡◌, ℕ, ◌+◌, ◌||◌, Bool, true, false, not, List, [], ◌∷◌, ◌++◌, Option, length, take, filter, map, refl, sym, ap, ◌∙◌, subst, append_assoc}
+use Rattle.std.proofs.lemmas.List.{map-append}
 use Rattle.std.proofs.lemmas.List.Elements.{filter-append}
 use Rattle.std.proofs.lemmas.List.Folds.{list_any-append}
 use Rattle.std.proofs.Math.Seq.{take-append-add, take-length}
@@ -9,7 +10,8 @@ use Rattle.machine.specs.declared.command.Reply.{Reply}
 use Rattle.machine.specs.Printed.{printed}
 use Rattle.printer.specs.declared.options.Options.{Options}
 use Rattle.printer.specs.Asked.{marks_lines, speaks_on}
-use Rattle.printer.specs.Prints.{texts, shown_by, is_byte, refuses, any_refuses, AppendsStart}
+use Rattle.printer.specs.Amounts.{reply_in}
+use Rattle.printer.specs.Prints.{texts, kept_by, shown_by, is_minor, refuses, any_refuses, AppendsStart}
 use Rattle.printer.specs.Sinks.{OutTakes, OutBegins, IsQuiet, GoesOn}
 
 pub texts-append : (xs ys : List Reply) → texts (xs ++ ys) ≡ texts xs ++ texts ys
@@ -17,22 +19,23 @@ texts-append [] ys = refl
 texts-append (x ∷ xs) ys = ap (λ (bs : List ℕ). printed x ++ bs) (texts-append xs ys) ∙ sym (append_assoc (printed x) (texts xs) (texts ys))
 
 -- where bytes are kept back, and where they are not
-texts-kept : (quiet : Bool) (xs ys : List Reply) → texts (cond quiet (filter (λ (reply : Reply). not (is_byte reply.answer)) (xs ++ ys)) (xs ++ ys))
-    ≡ texts (cond quiet (filter (λ (reply : Reply). not (is_byte reply.answer)) xs) xs) ++ texts (cond quiet (filter (λ (reply : Reply). not (is_byte reply.answer)) ys) ys)
-texts-kept true xs ys =
-    ap texts (filter-append (λ (reply : Reply). not (is_byte reply.answer)) xs ys) ∙ texts-append (filter (λ (reply : Reply). not (is_byte reply.answer)) xs) (filter (λ (reply : Reply). not (is_byte reply.answer)) ys)
-texts-kept false xs ys = texts-append xs ys
+kept-append : (quiet : Bool) (xs ys : List Reply) → kept_by quiet (xs ++ ys) ≡ kept_by quiet xs ++ kept_by quiet ys
+kept-append true xs ys = filter-append (λ (reply : Reply). not (is_minor reply.answer)) xs ys
+kept-append false xs ys = refl
 
 pub texts-shown : (o : Options) (xs ys : List Reply) → texts (shown_by o (xs ++ ys)) ≡ texts (shown_by o xs) ++ texts (shown_by o ys)
-texts-shown o xs ys = texts-kept o.quiet xs ys
+texts-shown o xs ys =
+    ap (λ (rs : List Reply). texts (map (reply_in o.amounts) rs)) (kept-append o.quiet xs ys)
+    ∙ ap texts (map-append (reply_in o.amounts) (kept_by o.quiet xs) (kept_by o.quiet ys))
+    ∙ texts-append (shown_by o xs) (shown_by o ys)
 
--- nothing is shown of nothing
-shown-nil : (quiet : Bool) → cond quiet (filter (λ (reply : Reply). not (is_byte reply.answer)) []) [] ≡ []
-shown-nil true = refl
-shown-nil false = refl
+-- nothing is kept of nothing
+kept-nil : (quiet : Bool) → kept_by quiet [] ≡ []
+kept-nil true = refl
+kept-nil false = refl
 
 texts-nothing : (o : Options) → texts (shown_by o []) ≡ []
-texts-nothing o = ap texts (shown-nil o.quiet)
+texts-nothing o = ap (λ (rs : List Reply). texts (map (reply_in o.amounts) rs)) (kept-nil o.quiet)
 
 -- nothing is the beginning of everything
 pub starts-nil : (a : Option (List ℕ)) (bs : List ℕ) → AppendsStart a a bs

@@ -1,16 +1,16 @@
-//! Which answers are bytes, and which refuse something.
+//! Which answers are minor, and which refuse something.
 
 ghost use Rattle.std.specs.Prelude.{◌≡◌, is_some};
-ghost use Rattle.printer.specs.Prints.{is_byte, refuses, is_refusing};
+ghost use Rattle.printer.specs.Prints.{is_minor, refuses, is_refusing};
 
 use driver::{Answer, Word};
 
-/// Whether a task read a byte.
-pub fn is_byte(answer: &Answer) -> bool
-    ensures { result ≡ is_byte answer.now }
+/// Whether a task read a byte, or its command ended with its death.
+pub fn is_minor(answer: &Answer) -> bool
+    ensures { result ≡ is_minor answer.now }
 {
     match answer {
-        Answer::Byte(_) => true,
+        Answer::Byte(_) | Answer::Word(Word::Killed) => true,
         Answer::Text(_) | Answer::Done | Answer::Word(_) => false,
         Answer::Kill(_)
         | Answer::KillAll {

@@ -1,13 +1,16 @@
 //! Why a task was killed, in words for people.
 
 use book::Victim;
-use charts::Size;
 use driver::Answer;
 use machine::amount::Amount;
 use machine::event::Cause;
 use machine::id::TaskId;
+use pictures::Size;
 use std::fmt;
 use std::fmt::{Formatter, Write};
+
+/// Page frames of a machine whose script has no line `frames`.
+const DEFAULT_FRAMES: u32 = 64;
 
 /// Who died, as an answer reports it.
 #[derive(Clone, Copy)]
@@ -55,6 +58,23 @@ pub struct Killing<'s> {
     pub usage: u64,
     /// The path of the group that dies with the task. `None` if the task dies alone.
     pub group: Option<&'s str>,
+    /// How many died with that group.
+    pub dead: u32,
+    /// Page frames of the machine.
+    pub frames: u32,
+    /// The first two of the other tasks that were as large.
+    pub first_tied: Option<TaskId>,
+    pub second_tied: Option<TaskId>,
+}
+
+/// Writes that no frame is free. The number of a script without a line `frames` comes with the name of that line.
+fn write_frames<W: Write>(f: &mut Formatter<W>, frames: u32) -> fmt::Result {
+    let size = Size(u64::from(frames));
+    write!(f, "at or below /: no frame is free of {frames} ({size}")?;
+    if frames == DEFAULT_FRAMES {
+        f.write_str(r#"; a line "frames" sets another number"#)?;
+    }
+    f.write_str(") and")
 }
 
 impl Killing<'_> {
@@ -72,7 +92,7 @@ impl Killing<'_> {
     fn write_limit<W: Write>(&self, f: &mut Formatter<W>) -> fmt::Result {
         let path = self.path;
         match (self.cause, self.max) {
-            (Cause::Frame, _) => f.write_str("at or below /: no frame is free and"),
+            (Cause::Frame, _) => write_frames(f, self.frames),
             // Not reached: a group without a max has room.
             (_, Amount::Max) => write!(f, "at or below {path}:"),
             (Cause::Charge(_), Amount::Pages(max)) => {
@@ -89,6 +109,38 @@ impl Killing<'_> {
             }
         }
     }
+
+    /// Writes which other tasks were as large, and how the choice was made.
+    fn write_ties<W: Write>(&self, f: &mut Formatter<W>) -> fmt::Result {
+        let Some(first) = self.first_tied else {
+            return Ok(());
+        };
+        match (self.second_tied, self.victim.as_large) {
+            (None, _) => write!(f, "; task {} is", first.0)?,
+            (Some(second), 2) => write!(f, "; tasks {} and {} are", first.0, second.0)?,
+            (Some(second), others) => {
+                let more = others.saturating_sub(2);
+                write!(f, "; tasks {}, {} and {more} more are", first.0, second.0)?
+            }
+        }
+        f.write_str(
+            " equally large, and the lowest number is chosen (Linux does not promise which)",
+        )
+    }
+
+    /// Writes that a group dies as one.
+    fn write_group<W: Write>(&self, f: &mut Formatter<W>, path: &str) -> fmt::Result {
+        match self.dead {
+            1 => write!(
+                f,
+                "; it is the only task of {path}, whose memory.oom.group is 1"
+            ),
+            dead => write!(
+                f,
+                "; all {dead} tasks of {path} are killed, since its memory.oom.group is 1"
+            ),
+        }
+    }
 }
 
 impl fmt::Display for Killing<'_> {
@@ -97,11 +149,9 @@ impl fmt::Display for Killing<'_> {
         f.write_str(" ")?;
         self.write_limit(f)?;
         f.write_str(" nothing can be reclaimed")?;
+        self.write_ties(f)?;
         match self.group {
-            Some(path) => write!(
-                f,
-                "; {path} is killed as one, since its memory.oom.group is 1"
-            ),
+            Some(path) => self.write_group(f, path),
             None => Ok(()),
         }
     }

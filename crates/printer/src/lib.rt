@@ -3,7 +3,9 @@
 //! [`print_run`] runs a schedule into it. [`write_bytes`] and [`write_line`] hand bytes to a writer.
 #![tactic(auto)]
 
+mod amounts;
 mod begun;
+mod failure;
 mod judged;
 mod killing;
 mod metered;
@@ -15,6 +17,7 @@ mod source;
 mod stopped;
 mod tally;
 
+pub use amounts::Amounts;
 pub use options::Options;
 pub use output::{write_bytes, write_line};
 pub use printer::{ERASE, Ended, print_run};

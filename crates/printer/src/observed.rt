@@ -1,13 +1,18 @@
-//! What is seen of groups while a script is run: how much they were charged with, and why a task was killed.
+//! What is seen of a machine while a script is run: how much groups were charged with, why a task was killed, and which
+//! page the device could not move.
 
-use crate::killing::Killing;
+use crate::amounts::{Amounts, add_number};
+use crate::failure::{Content, Failure};
+use crate::killing::{Killed, Killing};
 use crate::options::Options;
 use crate::source::paths_of;
-use book::{Book, GroupLook};
-use driver::Schedule;
+use book::{Book, GroupLook, PageLook};
+use driver::{Config, FailedCall, Schedule};
 use machine::bytes::PAGE_BYTES;
+use machine::config::{File, FileList};
 use machine::event::Cause;
-use machine::id::{GroupId, TaskId};
+use machine::id::GroupId;
+use machine::record::Kind;
 use std::alloc::{AllocError, Global};
 use std::io;
 use std::io::Write;
@@ -27,14 +32,31 @@ struct Seen<'s> {
     is_told: bool,
 }
 
+/// A call of the device that failed, and the page that it was made for.
+#[derive(Clone, Copy)]
+struct Failed<'s> {
+    call: FailedCall,
+    page: PageLook,
+    /// The path of the group that was charged for the page, if it is one of the observed groups.
+    path: Option<&'s str>,
+}
+
 /// What is seen of the groups of a script.
 #[derive(Drop)]
 pub struct Observed<'s> {
+    /// Page frames of the machine.
+    frames: u32,
+    /// Swap blocks of the device, which come before the blocks of the files.
+    swap: u32,
+    /// The files, if something asks for failed calls.
+    files: Vec<File>,
     groups: Vec<Seen<'s>>,
     /// How often a group made a younger generation.
     agings: u64,
     /// The kill of the relief that was asked for last, if it kills a task.
     doomed: Option<Killing<'s>>,
+    /// The last failed call that was seen.
+    failed: Option<Failed<'s>>,
 }
 
 impl<'s> Seen<'s> {
@@ -63,6 +85,24 @@ impl<'s> Seen<'s> {
         self.max_seq = max_seq;
         agings
     }
+
+    /// Writes the greatest `memory.current`. Bytes need no memory for their text.
+    fn write_peak<W: Write>(
+        &self,
+        to: &mut W,
+        amounts: Amounts,
+        text: &mut String,
+    ) -> io::Result<()> {
+        let bytes = self.peak.saturating_mul(PAGE_BYTES as u64);
+        match amounts {
+            Amounts::Bytes => writeln!(to, "greatest memory.current of {}: {bytes}", self.path),
+            Amounts::Human | Amounts::Pages => {
+                text.clear();
+                add_number(text, amounts, bytes)?;
+                writeln!(to, "greatest memory.current of {}: {text}", self.path)
+            }
+        }
+    }
 }
 
 impl<'s> Observed<'s> {
@@ -71,24 +111,33 @@ impl<'s> Observed<'s> {
         alloc: Global,
         options: Options,
         schedule: &'s Schedule,
+        config: &Config,
     ) -> Result<Observed<'s>, AllocError> {
-        if options.summary || options.explain {
-            return Observed::of(alloc, schedule);
+        let mut observed = Observed::nothing(alloc, config);
+        if options.summary || options.tells_reasons() {
+            observed.groups = Observed::groups_of(alloc, schedule)?;
         }
-        Ok(Observed::nothing(alloc))
+        if options.tells_reasons() {
+            observed.files = copy_of(alloc, &config.files)?;
+        }
+        Ok(observed)
     }
 
     /// Nothing is looked at.
-    fn nothing(alloc: Global) -> Observed<'s> {
+    fn nothing(alloc: Global, config: &Config) -> Observed<'s> {
         Observed {
+            frames: config.frames,
+            swap: config.swap,
+            files: Vec::new(alloc),
             groups: Vec::new(alloc),
             agings: 0,
             doomed: None,
+            failed: None,
         }
     }
 
     /// The groups that the steps make, and the root. Nothing was seen of them yet.
-    fn of(alloc: Global, schedule: &'s Schedule) -> Result<Observed<'s>, AllocError> {
+    fn groups_of(alloc: Global, schedule: &'s Schedule) -> Result<Vec<Seen<'s>>, AllocError> {
         let paths = paths_of(alloc, schedule)?;
         let mut groups = Vec::new(alloc);
         if !paths.iter().any(|path| *path == "/") {
@@ -97,11 +146,7 @@ impl<'s> Observed<'s> {
         for path in paths.iter() {
             groups.push(Seen::new(*path, true))?;
         }
-        Ok(Observed {
-            groups,
-            agings: 0,
-            doomed: None,
-        })
+        Ok(groups)
     }
 
     /// Looks at all groups.
@@ -121,6 +166,7 @@ impl<'s> Observed<'s> {
             return;
         };
         let group = victim.group.and_then(|group| self.group_of(book, group));
+        let first = book.next_as_large(&victim, victim.task);
         self.doomed = Some(Killing {
             victim,
             cause,
@@ -128,7 +174,50 @@ impl<'s> Observed<'s> {
             max: look.max,
             usage: look.usage,
             group: group.map(|(path, _)| path),
+            dead: 0,
+            frames: self.frames,
+            first_tied: first,
+            second_tied: first.and_then(|first| book.next_as_large(&victim, first)),
         });
+    }
+
+    /// Notes a failed call of the device.
+    pub fn see_failure(&mut self, book: &Book, call: FailedCall) {
+        self.failed = book.page_in_transfer(call.ticket).map(|page| Failed {
+            call,
+            page,
+            path: self.group_of(book, page.group).map(|(path, _)| path),
+        });
+    }
+
+    /// The last failed call that was seen. It was to make room for an access, or not.
+    pub fn failure(&self, makes_room: bool) -> Option<Failure<'_>> {
+        let failed = self.failed?;
+        let content = match failed.page.kind {
+            Kind::Anon => Content::Memory(failed.page.mapping),
+            Kind::File => self.file_at(failed.call.block)?,
+        };
+        Some(Failure {
+            direction: failed.call.direction,
+            content,
+            path: failed.path,
+            makes_room,
+        })
+    }
+
+    /// The page of a file that has this block of the device.
+    fn file_at(&self, block: u32) -> Option<Content<'_>> {
+        let mut page = block.checked_sub(self.swap)?;
+        for file in self.files.iter() {
+            match page.checked_sub(file.pages) {
+                Some(rest) => page = rest,
+                None => {
+                    let name = file.name.as_str();
+                    return Some(Content::File { name, page });
+                }
+            }
+        }
+        None
     }
 
     /// The path of the group with this number, and what is known of it, if it is one of the observed groups.
@@ -144,23 +233,37 @@ impl<'s> Observed<'s> {
     }
 
     /// Why the task was killed, if the relief that was asked for last killed it.
-    pub fn killing_of(&self, task: TaskId) -> Option<Killing<'s>> {
+    pub fn killing_of(&self, killed: Killed) -> Option<Killing<'s>> {
         match self.doomed {
-            Some(killing) if killing.victim.task == task => Some(killing),
+            Some(killing) if killing.victim.task == killed.victim => Some(Killing {
+                dead: killed.with_group.unwrap_or(0),
+                ..killing
+            }),
             _ => None,
         }
     }
 
-    /// Writes a line for each number: how often groups were aged, and the greatest `memory.current` of each in
-    /// bytes.
-    pub fn write<W: Write>(&self, to: &mut W) -> io::Result<()> {
+    /// Writes a line for each number: how often groups were aged, and the greatest `memory.current` of each.
+    pub fn write<W: Write>(&self, to: &mut W, amounts: Amounts) -> io::Result<()> {
         writeln!(to, "agings: {}", self.agings)?;
+        let mut peak = String::new(*self.groups.allocator());
         for seen in self.groups.iter() {
             if seen.is_told {
-                let bytes = seen.peak.saturating_mul(PAGE_BYTES as u64);
-                writeln!(to, "greatest memory.current of {}: {bytes}", seen.path)?;
+                seen.write_peak(to, amounts, &mut peak)?;
             }
         }
         Ok(())
     }
+}
+
+/// Copies of the files.
+fn copy_of(alloc: Global, files: &FileList) -> Result<Vec<File>, AllocError> {
+    let mut copies = Vec::new(alloc);
+    for file in files.as_slice() {
+        copies.push(File {
+            name: file.name.copy(alloc)?,
+            pages: file.pages,
+        })?;
+    }
+    Ok(copies)
 }

@@ -3,6 +3,7 @@
 ghost use Rattle.std.specs.Prelude.{◌≡◌};
 ghost use Rattle.printer.specs.Asked.{plain};
 
+use crate::amounts::Amounts;
 use machine::config::Placement;
 use machine::limit::USUAL_TURNS;
 
@@ -10,6 +11,8 @@ use machine::limit::USUAL_TURNS;
 /// they are, and nothing else is said. A script's fault is reported with its line and its cause.
 #[derive(Clone, Copy, Debug, PartialEq, Eq)]
 pub struct Options {
+    /// How amounts of memory in answers are printed.
+    pub amounts: Amounts,
     /// One line after the last answer says what an audit of the run finds.
     pub audit: bool,
     /// For each line that is refused and each task that is killed, a line says why, as it comes. For a script's
@@ -23,8 +26,13 @@ pub struct Options {
     pub placement: Placement,
     /// A terminal shows how many of the lines are done, while the run continues.
     pub progress: bool,
-    /// Bytes that tasks read are not printed.
+    /// After each 10,000 lines of the script, a line says how many are done.
+    pub progress_lines: bool,
+    /// Bytes that tasks read are not printed, and neither are commands of killed tasks.
     pub quiet: bool,
+    /// One line after the last answer says how many lines failed, with which words, and what to do. Where no line failed,
+    /// the line is left out. A summary has this line too.
+    pub refusals: bool,
     /// The first line that is refused ends the run, and is its fault.
     pub strict: bool,
     /// A few lines after the last answer say how much was done.
@@ -35,18 +43,22 @@ pub struct Options {
 }
 
 impl Default for Options {
-    /// Nothing is asked for, pages enter the lists by our own rule, and a line takes 1,000 turns at most.
+    /// Nothing is asked for, amounts are printed in bytes, pages enter the lists by our own rule, and a line takes 1,000 turns
+    /// at most.
     fn default() -> Options
         ensures { result ≡ plain }
     {
         Options {
+            amounts: Amounts::Bytes,
             audit: false,
             explain: false,
             labels: false,
             lines: false,
             placement: Placement::Own,
             progress: false,
+            progress_lines: false,
             quiet: false,
+            refusals: false,
             strict: false,
             summary: false,
             turns: USUAL_TURNS,
@@ -68,6 +80,11 @@ impl Options {
     pub fn places_faults(self) -> bool
         ensures { result ≡ places_faults self }
     {
+        self.explain || self.strict
+    }
+
+    /// Whether something says why a line was refused.
+    pub(crate) fn tells_reasons(self) -> bool {
         self.explain || self.strict
     }
 

@@ -9,8 +9,9 @@ ghost use Rattle.printer.specs.Asked.{marks_lines, speaks};
 ghost use Rattle.printer.specs.Prints.{behind_answers, is_end, refuses, AppendsStart, PrintsRun, PrintsStart, EndsRun};
 ghost use Rattle.printer.specs.Sinks.{OutTakes, OutBegins, IsQuiet, GoesOn, is_ended, EndsAt};
 
+use crate::amounts::add_reply;
 use crate::begun::Begun;
-use crate::judged::{is_byte, refusal_of};
+use crate::judged::{is_minor, refusal_of};
 use crate::killing::{Killed, killed_in};
 use crate::metered::{Calls, Metered, Moved};
 use crate::observed::Observed;
@@ -21,7 +22,9 @@ use crate::stopped::Stopped;
 use crate::tally::{Summary, Tally};
 use block_store::BlockDevice;
 use book::Book;
-use driver::{Actor, Answer, Closed, Config, Reply, Sink, Steps, Stop, Word, run_into};
+use driver::{
+    Actor, Answer, Closed, Command, Config, FailedCall, Reply, Sink, Steps, Stop, Word, run_into,
+};
 use explain::{Reason, Told, Words, reason_of};
 use machine::event::Cause;
 use machine::refusal::Refusal;
@@ -29,6 +32,12 @@ use std::alloc::{AllocError, Global};
 use std::io;
 use std::io::Write;
 use trace::{Trace, audit};
+
+/// What a line is answered if the trace has no room.
+const TRACE_FULL: Word = Word::Refused(Refusal::TraceFull);
+
+/// After so many lines of the script, a line says how many are done.
+const PROGRESS_LINES: usize = 10_000;
 
 /// Makes a terminal erase its current line.
 pub const ERASE: &[u8] = b"\r\x1b[K";
@@ -51,6 +60,8 @@ struct Printer<'o, 'e, 's, 'l, 't, 'b, 'g, 'p, 'f, O: Write, E: Write> {
     observed: &'g mut Observed<'p>,
     /// How many hundredths of the lines a terminal shows as done, if it shows any.
     shown: Option<usize>,
+    /// How often a line has said how many lines are done, if it had been said after each 10,000 lines.
+    told: usize,
     /// How many of the steps are done, as far as is known.
     done: usize,
     tally: Tally,
@@ -86,11 +97,11 @@ impl<'o, 'e, 's, 'l, 't, 'b, 'g, 'p, 'f, O: Write, E: Write> Printer<
         ensures start { OnErr result (OutBegins self.old.options (O.contents self.old.out.now) (O.contents self.new.out.now) (reply.now ∷ [])) }
         ensures quiet { IsQuiet self.old.options self.old.shown self.new.shown (E.contents self.old.err.now) (E.contents self.new.err.now) }
     {
-        if self.options.quiet && is_byte(&reply.answer) {
+        if self.options.quiet && is_minor(&reply.answer) {
             return Ok(());
         }
         self.text.clear();
-        reply.print(self.text)?;
+        add_reply(self.text, self.options.amounts, reply)?;
         if self.text.is_empty() {
             return Ok(());
         }
@@ -117,7 +128,7 @@ impl<'o, 'e, 's, 'l, 't, 'b, 'g, 'p, 'f, O: Write, E: Write> Printer<
         let mut marked = String::new(alloc);
         for line in self.text.lines() {
             if self.options.labels {
-                writeln!(marked, "{number} {words}: {line}")?;
+                writeln!(marked, "{number}: {words}: {line}")?;
             } else {
                 writeln!(marked, "{number}: {line}")?;
             }
@@ -157,6 +168,24 @@ impl<'o, 'e, 's, 'l, 't, 'b, 'g, 'p, 'f, O: Write, E: Write> Printer<
         }
     }
 
+    /// Says in a line how many lines are done, if the answer is the first after another 10,000 lines.
+    fn tell_progress(&mut self, step: usize)
+        ensures out { self.new.out ≡ self.old.out }
+        ensures err { self.new.err.ghost_name ≡ self.old.err.ghost_name }
+        ensures options { self.new.options ≡ self.old.options }
+        ensures stopped { self.new.stopped.now ≡ self.old.stopped.now }
+    {
+        let source = self.source;
+        let done = source.line_of(step);
+        let told = done / PROGRESS_LINES;
+        if told > self.told {
+            self.told = told;
+            let last = source.last_line();
+            // Nothing depends on it: the run continues if it can't be written.
+            let _ = writeln!(self.err, "progress: line {done} of {last}");
+        }
+    }
+
     /// Leaves on a terminal how many lines were done when the run was cut short.
     fn leave_shown(&mut self)
         ensures out { self.new.out ≡ self.old.out }
@@ -188,8 +217,13 @@ impl<'o, 'e, 's, 'l, 't, 'b, 'g, 'p, 'f, O: Write, E: Write> Printer<
         let words = Words(texts.of(number));
         self.text.clear();
         write!(self.text, "{}:{number}: {words}: {word}", source.name)?;
-        let told = told_of(source, texts, self.begun.of(actor), actor, number);
-        if let Some(reason) = reason_for(actor, told, word) {
+        let alloc = *self.text.allocator();
+        let told = told_of(alloc, source, texts, self.begun.of(actor), actor, number);
+        if word == Word::Io
+            && let Some(failure) = self.observed.failure(is_access(told))
+        {
+            write!(self.text, ", {failure}")?;
+        } else if let Some(reason) = reason_for(actor, told, word) {
             write!(self.text, ", {reason}")?;
         }
         Ok(())
@@ -209,10 +243,17 @@ impl<'o, 'e, 's, 'l, 't, 'b, 'g, 'p, 'f, O: Write, E: Write> Printer<
         if self.options.strict {
             return Err(self.end_at(step, actor, word));
         }
-        if self.options.explain {
+        let source = self.source;
+        self.tally = self.tally.with_failed(source.line_of(step));
+        if self.options.explain && !self.is_told(word) {
             self.tell_why(step, actor, word)?;
         }
         Ok(())
+    }
+
+    /// Whether an explanation of this word would be the same as one before. The line about failures counts the others.
+    fn is_told(&self, word: Word) -> bool {
+        word == TRACE_FULL && self.tally.times(word) > 1
     }
 
     /// Ends a strict run at this step.
@@ -298,7 +339,7 @@ impl<'o, 'e, 's, 'l, 't, 'b, 'g, 'p, 'f, O: Write, E: Write> Printer<
         ensures stopped { self.new.stopped.now ≡ self.old.stopped.now }
         ensures shown { self.new.shown ≡ self.old.shown }
     {
-        let Some(killing) = self.observed.killing_of(killed.victim) else {
+        let Some(killing) = self.observed.killing_of(killed) else {
             return Ok(false);
         };
         let source = self.source;
@@ -334,6 +375,9 @@ impl<'o, 'e, 's, 'l, 't, 'b, 'g, 'p, 'f, O: Write, E: Write> Printer<
         if self.options.progress {
             self.show(step);
         }
+        if self.options.progress_lines {
+            self.tell_progress(step);
+        }
         Ok(())
     }
 
@@ -364,10 +408,32 @@ impl<'o, 'e, 's, 'l, 't, 'b, 'g, 'p, 'f, O: Write, E: Write> Printer<
         if moved.is_none() && self.options.progress {
             self.leave_shown();
         }
+        if moved.is_some() {
+            self.done = self.source.schedule.len();
+        }
         if self.options.summary {
             self.sum_up(moved);
         }
+        if self.tells_failed() {
+            let tally = self.tally;
+            let lines = self.line_done();
+            // Nothing depends on them.
+            let _ = tally.write_failed(self.err, lines);
+            if self.options.quiet {
+                let _ = tally.write_late(self.err);
+            }
+        }
         stopped_by(stopped, flushed)
+    }
+
+    /// Whether a line says how many lines failed.
+    fn tells_failed(&self) -> bool
+        ensures { speaks self.now.options ≡ false → result ≡ false }
+    {
+        !self.options.strict
+            && (self.options.refusals
+                || self.options.summary
+                || (self.options.explain && self.tally.times(TRACE_FULL) > 1))
     }
 
     /// Writes what an audit of the run says, if it is asked for.
@@ -420,9 +486,6 @@ impl<'o, 'e, 's, 'l, 't, 'b, 'g, 'p, 'f, O: Write, E: Write> Printer<
         ensures out { self.new.out ≡ self.old.out }
         ensures err { self.new.err.ghost_name ≡ self.old.err.ghost_name }
     {
-        if moved.is_some() {
-            self.done = self.source.schedule.len();
-        }
         let summary = Summary {
             tally: self.tally,
             line: self.line_done(),
@@ -430,12 +493,13 @@ impl<'o, 'e, 's, 'l, 't, 'b, 'g, 'p, 'f, O: Write, E: Write> Printer<
             moved,
         };
         // Nothing depends on it.
-        let _ = summary.write(self.err, self.observed);
+        let _ = summary.write(self.err, self.options.amounts, self.observed);
     }
 }
 
 /// The command that this step began, if it began one, as it is when a line with this number is answered.
 fn told_of<'s>(
+    alloc: Global,
     source: Source<'s>,
     texts: Texts<'_, 's>,
     step: Option<usize>,
@@ -451,7 +515,16 @@ fn told_of<'s>(
         number,
         in_turns: number != line,
         turns: source.turns,
+        alloc,
     })
+}
+
+/// Whether the command reads or writes a byte.
+fn is_access(told: Option<Told<'_>>) -> bool {
+    match told {
+        Some(told) => matches!(told.command, Command::Access { place: _, op: _ }),
+        None => false,
+    }
 }
 
 /// Why the actor's line was refused.
@@ -491,9 +564,10 @@ fn kept_of<'s>(
     alloc: Global,
     options: Options,
     source: Source<'s>,
+    config: &Config,
 ) -> Result<(Vec<Line<'s>>, Observed<'s>), AllocError> {
     let lines = lines_for(alloc, options, source.script)?;
-    let observed = Observed::asked(alloc, options, source.schedule)?;
+    let observed = Observed::asked(alloc, options, source.schedule, config)?;
     Ok((lines, observed))
 }
 
@@ -515,7 +589,7 @@ pub fn print_run<D: BlockDevice, O: Write, E: Write>(
     ensures ends { IfErr result.written (λ why. is_end why ≡ true → IsErr result.ran × (options.strict ≡ true) × (marks_lines options ≡ false → EndsRun config (D.disk device.old) source.entry.schedule.now.steps options (O.contents out.old) (O.contents out.new))) }
     ensures quiet { speaks options ≡ false → E.contents err.new ≡ E.contents err.old }
 {
-    let (lines, mut observed) = match kept_of(alloc, options, source) {
+    let (lines, mut observed) = match kept_of(alloc, options, source, &config) {
         Ok(kept) => kept,
         Err(_) => {
             return Ended {
@@ -542,6 +616,7 @@ pub fn print_run<D: BlockDevice, O: Write, E: Write>(
         begun: &mut begun,
         observed: &mut observed,
         shown: None,
+        told: 0,
         done: 0,
         tally: Tally::new(),
         stopped: &mut stopped,
@@ -603,6 +678,12 @@ impl<'o, 'e, 's, 'l, 't, 'b, 'g, 'p, 'f, O: Write, E: Write> Sink
     fn see_relief(&mut self, _step: usize, book: &Book, cause: Cause) {
         if self.options.explain {
             self.observed.see_relief(book, cause);
+        }
+    }
+
+    fn see_failure(&mut self, _step: usize, book: &Book, call: FailedCall) {
+        if self.options.tells_reasons() {
+            self.observed.see_failure(book, call);
         }
     }
 

@@ -1,8 +1,10 @@
 //! What a run has answered and done, in numbers, and the lines that say so.
 
+use crate::amounts::Amounts;
 use crate::metered::Moved;
 use crate::observed::Observed;
 use driver::{Answer, Word};
+use machine::limit::MOST_ENTRIES;
 use machine::refusal::Refusal;
 use std::io;
 use std::io::Write;
@@ -36,10 +38,15 @@ pub struct Tally {
     ended: u64,
     /// Tasks that were killed.
     kills: u64,
+    /// Commands of killed tasks.
+    late: u64,
     /// How often each of the words that refuse something was answered, in their order.
     refused: [u64; REFUSING.len()],
     /// Commands that were begun over another, and so not begun.
     underway: u64,
+    /// Lines that failed, and the number of the last of them.
+    failed: u64,
+    last_failed: usize,
 }
 
 impl Tally {
@@ -48,8 +55,11 @@ impl Tally {
         Tally {
             ended: 0,
             kills: 0,
+            late: 0,
             refused: [0; REFUSING.len()],
             underway: 0,
+            failed: 0,
+            last_failed: 0,
         }
     }
 
@@ -65,10 +75,64 @@ impl Tally {
         }
     }
 
+    /// With the line of this number as one that failed. Its answers come in a row.
+    pub fn with_failed(self, line: usize) -> Tally {
+        if self.last_failed == line {
+            return self;
+        }
+        Tally {
+            failed: self.failed.saturating_add(1),
+            last_failed: line,
+            ..self
+        }
+    }
+
+    /// How often this word was answered, which refuses something.
+    pub fn times(&self, word: Word) -> u64 {
+        for (refusing, count) in REFUSING.iter().zip(self.refused.iter()) {
+            if *refusing == word {
+                return *count;
+            }
+        }
+        0
+    }
+
+    /// Writes one line: how many of this number of lines failed, how often with each word, and what to do. It writes
+    /// nothing if none failed.
+    pub fn write_failed<W: Write>(&self, to: &mut W, lines: usize) -> io::Result<()> {
+        if self.failed == 0 {
+            return Ok(());
+        }
+        write!(to, "{} of {lines} lines failed", self.failed)?;
+        let mut before = ':';
+        for (word, count) in REFUSING.iter().zip(self.refused.iter()) {
+            if *count > 0 {
+                write!(to, "{before} {word} {count}")?;
+                write_tip(to, *word)?;
+                before = ',';
+            }
+        }
+        writeln!(to, "; --strict stops at the first")
+    }
+
+    /// Writes one line: how many answers say that the task of a line was killed. It writes nothing if there is no such
+    /// answer.
+    pub fn write_late<W: Write>(&self, to: &mut W) -> io::Result<()> {
+        match self.late {
+            0 => Ok(()),
+            1 => writeln!(to, "1 line of a killed task was not carried out"),
+            late => writeln!(to, "{late} lines of killed tasks were not carried out"),
+        }
+    }
+
     fn count_word(&mut self, word: Word) {
         match word {
             Word::Underway => bump(&mut self.underway),
             Word::Idle | Word::TurnLimit => {}
+            Word::Killed => {
+                bump(&mut self.ended);
+                bump(&mut self.late);
+            }
             _ => bump(&mut self.ended),
         }
         for (refusing, count) in REFUSING.iter().zip(self.refused.iter_mut()) {
@@ -83,6 +147,18 @@ impl Tally {
         begun
             .saturating_sub(self.underway)
             .saturating_sub(self.ended)
+    }
+}
+
+/// Writes what to do about a word that is answered again and again, in parentheses.
+fn write_tip<W: Write>(to: &mut W, word: Word) -> io::Result<()> {
+    match word {
+        Word::Refused(Refusal::TraceFull) => write!(
+            to,
+            " (the trace is full: put \"trace {MOST_ENTRIES}\" at the top of the script)"
+        ),
+        Word::TurnLimit => to.write_all(b" (--turns 0 sets no limit)"),
+        _ => Ok(()),
     }
 }
 
@@ -104,7 +180,12 @@ pub struct Summary {
 
 impl Summary {
     /// Writes all lines, and then the lines about what was seen of groups.
-    pub fn write<W: Write>(&self, to: &mut W, observed: &Observed<'_>) -> io::Result<()> {
+    pub fn write<W: Write>(
+        &self,
+        to: &mut W,
+        amounts: Amounts,
+        observed: &Observed<'_>,
+    ) -> io::Result<()> {
         writeln!(to, "lines: {}", self.line)?;
         writeln!(to, "kills: {}", self.tally.kills)?;
         self.write_refused(to)?;
@@ -112,7 +193,7 @@ impl Summary {
         if let Some(moved) = self.moved {
             moved.write(to)?;
         }
-        observed.write(to)
+        observed.write(to, amounts)
     }
 
     /// Writes how many lines were refused, and with which words.

@@ -2,7 +2,7 @@
 
 use std::io;
 use std::io::{Error, ErrorKind, Read, Write};
-use subcommands::{Placement, SCRIPT_BYTES, read_and_check, schedule};
+use subcommands::{Options, SCRIPT_BYTES, read_and_check, schedule};
 
 const OVER_LIMIT: &str = "\
 group /a
@@ -227,7 +227,7 @@ fn a_check_whose_line_cannot_be_written_ends_with_status_1(rt: HostRuntime) {
         let fits = room == line.len();
         let status = read_and_check(
             alloc,
-            Placement::Own,
+            Options::default(),
             "script",
             &mut script,
             &mut out,
@@ -247,7 +247,7 @@ fn a_check_whose_line_cannot_be_written_ends_with_status_1(rt: HostRuntime) {
     let mut script = "group /a\n".as_bytes();
     let status = read_and_check(
         alloc,
-        Placement::Own,
+        Options::default(),
         "script",
         &mut script,
         &mut out,

@@ -3,6 +3,7 @@
 use std::alloc::Global;
 use std::io::{Error, ErrorKind, Write};
 use std::process::Abort;
+use std::test::Fail;
 use std::{io, str};
 use subcommands::{Options, run_script, status_of};
 
@@ -158,6 +159,7 @@ pages dropped: 0
 pages written home: 0
 agings: 0
 greatest memory.current of /a: 4096
+1 of 9 lines failed: ENOENT 1; --strict stops at the first
 ";
 
 // Other counts are in options.cases of `cases`.
@@ -244,6 +246,29 @@ fn a_terminal_sees_how_many_lines_are_done(rt: HostRuntime) {
         err,
     );
     writes(&rt, options, "", "", "reading the script\r\u{1b}[K");
+}
+
+// Elsewhere a line says so at the first answer after each 10,000 lines.
+#[test]
+fn lines_say_how_many_lines_are_done(rt: HostRuntime) -> Result<(), Fail> {
+    let options = Options {
+        progress_lines: true,
+        ..Options::default()
+    };
+    let mut script = String::new(rt.alloc());
+    script.push_str("group /a\n")?;
+    for number in 2..25_000 {
+        script.push_str(if number == 10_000 {
+            "cat /a memory.current\n"
+        } else {
+            "#\n"
+        })?;
+    }
+    script.push_str("group /b\ngroup /c\n")?;
+    let err = "progress: line 10000 of 25001\nprogress: line 25000 of 25001\n";
+    writes(&rt, options, script.as_str(), "0\n", err);
+    writes(&rt, options, "group /a\ncat /a memory.current\n", "0\n", "");
+    Ok(())
 }
 
 // If a run is cut short, it stays as a line of its own, and so does what is said of it.

@@ -11,6 +11,7 @@ use Rattle.scripts.specs.declared.mode.Mode.TheVariants.{Schedule}
 use Rattle.scripts.specs.Header.{config_of}
 use Rattle.scripts.specs.Script.{items_of, faults_of, steps_of, IsFaultless}
 use Rattle.printer.specs.declared.options.Options.{Options}
+use Rattle.printer.specs.Asked.{plain}
 use Rattle.printer.specs.Prints.{PrintsRun, PrintsStart, EndsRun}
 
 -- the device that a script is run over: blocks of zeros, as many as its header asks for, of whose calls exactly those fail that it lists.
@@ -21,6 +22,11 @@ disk_of is = new_disk (blocks_of (config_of is)) (faults_of Read is) (faults_of 
 -- what the header asks for, with as many turns of a line as the options say, and their placement. (Excludes a placement that is ignored.)
 abbrev pub configured : Options → List Item → Config
 configured options is = record (config_of is) { turns = options.turns; placement = options.placement }
+
+-- what a check heeds of what is asked for: the placement, how many turns a line takes, whether a line that is refused ends the run, and whether it is
+-- said why. (Excludes a check of other answers than those of a schedule with these options.)
+abbrev pub as_checked : Options → Options
+as_checked options = record plain { explain = options.explain; placement = options.placement; strict = options.strict; turns = options.turns }
 
 -- no line of the script is faulty, and a writer got what all of it prints, and what the options ask for behind that
 pub record PrintsScript (options : Options) (script : List ℕ) (old new : Option (List ℕ)) : Type 0 where

@@ -1,23 +1,25 @@
 //! Charts and tables of what groups are charged with.
 
-ghost use Rattle.std.specs.Prelude.{◌≡◌, ℕ, true, List, map, IsErr, IfOk, IfErr, OnOk, string_bytes};
+ghost use Rattle.std.specs.Prelude.{◌≡◌, ℕ, true, false, [], List, map, IsErr, IfOk, IfErr, OnOk};
 ghost use Rattle.std.specs.Io.KnownBytes.{Appends};
 ghost use Rattle.std.specs.Str.Lines.{lines};
+ghost use Rattle.charts.specs.Phased.{phases_in};
 ghost use Rattle.machine.specs.State.{blocks_of, is_config};
 ghost use Rattle.block_store.specs.Device.{new_disk};
 ghost use Rattle.scripts.specs.declared.fault.Cause.{Cause};
 ghost use Rattle.scripts.specs.declared.mode.Mode.TheVariants.{Schedule};
 ghost use Rattle.scripts.specs.Script.{IsFirstFault};
-ghost use Rattle.subcommands.specs.Charted.{charted_in, ListsRun, ListsScript};
+ghost use Rattle.subcommands.specs.Charted.{charted_in, ListsRun, ListsScript, RefusesNothing};
 ghost use Rattle.subcommands.specs.Told.{Explains, IsOfScript, IsRunFault};
 
 use crate::device::new_device;
 use crate::fault::{Fault, Wanted};
-use crate::{faulty, unwritten};
+use crate::{faulty, run_script, unwritten};
 use block_store::{BlockDevice, MemDevice};
-use charts::{picture, table, watch};
+use charts::{phases, table, watch};
 use driver::{Config, Steps};
 use printer::{Options, paths_of, write_bytes};
+use script_pictures::picture;
 use scripts::{Mode, Script, one_answer};
 use std::alloc::{AllocError, Global};
 use std::io;
@@ -43,55 +45,65 @@ fn charted_paths(alloc: Global, schedule: &driver::Schedule) -> Result<Vec<&str>
     Ok(paths)
 }
 
+/// What is drawn: a script, and what it says.
+#[derive(Clone, Copy)]
+struct Drawn<'s> {
+    kind: Drawing,
+    title: &'s str,
+    script: &'s [u8],
+    schedule: &'s driver::Schedule,
+}
+
 /// The text that is written. It fails if memory is refused.
 fn text_of(
     alloc: Global,
-    kind: Drawing,
-    title: &str,
+    drawn: Drawn<'_>,
     config: Config,
     device: &mut MemDevice,
-    schedule: &driver::Schedule,
-) -> Result<String, AllocError>
-    ensures listed { IfOk result (λ s. kind ≡ Drawing.Table → ListsRun config device.old schedule.now.steps schedule.now.numbers (string_bytes s)) }
+) -> Result<Vec<u8>, AllocError>
+    ensures listed { IfOk result (λ text. drawn.entry.kind ≡ Drawing.Table → ListsRun config device.old drawn.entry.schedule.now.steps drawn.entry.schedule.now.numbers (phases_in drawn.entry.script.now) text.items) }
 {
-    let paths = charted_paths(alloc, schedule)?;
-    let numbers = schedule.numbers(alloc)?;
-    let steps = Steps::Lines(schedule);
-    match kind {
+    let paths = charted_paths(alloc, drawn.schedule)?;
+    let numbers = drawn.schedule.numbers(alloc)?;
+    let phases = phases(alloc, drawn.script)?;
+    let steps = Steps::Lines(drawn.schedule);
+    match drawn.kind {
         Drawing::Picture => {
             let Ok(watched) = watch(alloc, config, device, steps, &paths, false) else {
                 return Err(AllocError);
             };
-            picture(alloc, title, &numbers, &paths, &watched)
+            let picture = picture(alloc, drawn.title, &numbers, &phases, &paths, &watched)?;
+            Ok(picture.into_bytes())
         }
         Drawing::Table => {
             let Ok(watched) = watch(alloc, config, device, steps, &paths, true) else {
                 return Err(AllocError);
             };
-            table(alloc, &numbers, &paths, &watched)
+            table(alloc, &numbers, &phases, &paths, &watched)
         }
     }
 }
 
 /// Writes the text, and flushes the writer.
-fn write_all<O: Write>(out: &mut O, text: &str) -> io::Result<()>
+fn write_all<O: Write>(out: &mut O, text: &[u8]) -> io::Result<()>
     ensures { OnOk result (Appends (O.contents out.old) (O.contents out.new) text.now) }
 {
-    write_bytes(out, text.as_bytes())?;
+    write_bytes(out, text)?;
     out.flush()
 }
 
-/// Runs the script over a new device, and writes what the groups were charged with.
+/// Runs the script, which was read from these bytes, over a new device. Writes what the groups were charged with.
 fn chart_steps<O: Write>(
     alloc: Global,
     kind: Drawing,
     title: &str,
+    bytes: &[u8],
     script: Script,
     out: &mut O,
 ) -> Result<(), Fault>
     requires limits { is_config script.config ≡ true }
     ensures why { IfErr result IsRunFault }
-    ensures listed { OnOk result (kind ≡ Drawing.Table → (text : List ℕ) × ListsRun script.config (new_disk (blocks_of script.config) script.read_faults.items script.write_faults.items) script.schedule.steps script.schedule.numbers text × Appends (O.contents out.old) (O.contents out.new) text) }
+    ensures listed { OnOk result (kind ≡ Drawing.Table → (text : List ℕ) × ListsRun script.config (new_disk (blocks_of script.config) script.read_faults.items script.write_faults.items) script.schedule.steps script.schedule.numbers (phases_in bytes.now) text × Appends (O.contents out.old) (O.contents out.new) text) }
 {
     let Script {
         config,
@@ -105,22 +117,46 @@ fn chart_steps<O: Write>(
         Err(wanted) => return Err(Fault::Memory(wanted)),
     };
     let wanted = Wanted::of(&config, device.blocks());
-    let text = match text_of(alloc, kind, title, config, &mut device, &schedule) {
+    let drawn = Drawn {
+        kind,
+        title,
+        script: bytes,
+        schedule: &schedule,
+    };
+    let text = match text_of(alloc, drawn, config, &mut device) {
         Ok(text) => text,
         Err(_) => return Err(Fault::Memory(wanted)),
     };
-    match write_all(out, text.as_str()) {
+    match write_all(out, text.as_slice()) {
         Ok(()) => Ok(()),
         Err(error) => Err(unwritten(wanted, error)),
     }
 }
 
+/// Runs the script to see whether a line is refused. What it answers is dropped.
+fn run_strictly(alloc: Global, options: Options, title: &str, script: &[u8]) -> Result<(), Fault>
+    requires strict { options.strict ≡ true }
+    ensures unrefused { OnOk result (RefusesNothing options script.now) }
+    ensures why { IfErr result (Explains options title.now script.now) }
+{
+    let unmarked = Options {
+        labels: false,
+        lines: false,
+        ..options
+    };
+    let mut answers = Vec::new(alloc);
+    let mut said = Vec::new(alloc);
+    run_script(alloc, unmarked, title, script, &mut answers, &mut said)
+}
+
 /// `memcgrun chart FILE`: runs a script as [`crate::run_script`] does. In place of the answers, it writes a picture
-/// or a table. This has the charges of each group that the script makes, after each line. It shows what a look at
-/// the book shows between two steps (see [`charts::watch`]). No command is added, so the run is the same.
+/// or a table. This has the charges of each group that the script makes, after each line, and the frames and swap blocks
+/// in use. A comment `# mark NAME` begins a phase of this name. It shows what a look at the book shows between two steps
+/// (see [`charts::watch`]). No command is added, so the run is the same.
 ///
 /// It fails as `run_script` does. Then `out` may have the beginning of the picture or of the table. For a faulty
-/// script, `out` gets nothing.
+/// script, `out` gets nothing. If the options ask for a strict run, the script is run once before, and nothing is drawn
+/// if a line is refused.
 pub fn chart<O: Write>(
     alloc: Global,
     options: Options,
@@ -132,15 +168,20 @@ pub fn chart<O: Write>(
     ensures faulty { (n : ℕ) (cause : Cause) → IsFirstFault Schedule (lines script.now) n cause → IsErr result × (O.contents out.new ≡ O.contents out.old) }
     ensures why { IfErr result (Explains options title.now script.now) }
     ensures unrun { IfErr result (λ why. IsOfScript why → O.contents out.new ≡ O.contents out.old) }
+    // If the run was to be strict, no line was refused.
+    ensures unrefused { OnOk result (options.strict ≡ true → RefusesNothing options script.now) }
     // If it succeeds and a table was asked for, `out` got the table of all groups that the script makes.
     ensures listed { OnOk result (kind ≡ Drawing.Table → ListsScript options script.now (O.contents out.old) (O.contents out.new)) }
 {
     one_answer();
+    if options.strict {
+        run_strictly(alloc, options, title, script)?;
+    }
     match scripts::read(alloc, script, Mode::Schedule) {
-        Ok(mut script) => {
-            script.config.turns = options.turns;
-            script.config.placement = options.placement;
-            chart_steps(alloc, kind, title, script, out)
+        Ok(mut read) => {
+            read.config.turns = options.turns;
+            read.config.placement = options.placement;
+            chart_steps(alloc, kind, title, script, read, out)
         }
         Err(fault) => Err(faulty(alloc, options, title, script, Mode::Schedule, fault)),
     }

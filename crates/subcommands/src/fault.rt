@@ -75,6 +75,11 @@ impl Fault {
         }
     }
 
+    /// Whether its lines begin with the name of the script's file.
+    pub(crate) fn names_file(&self) -> bool {
+        matches!(self, Fault::Placed(_, _) | Fault::Refused(_))
+    }
+
     /// Writes the lines that say why, or nothing if the fault is silent. It takes no memory.
     ///
     /// The error is the writer's, and then the writer took at most the beginning. It is also an error if the line

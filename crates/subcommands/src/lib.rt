@@ -30,7 +30,7 @@ use device::new_device;
 pub use driver::Placement;
 use driver::{Config, Stop};
 pub use fault::{Fault, Wanted};
-pub use printer::Options;
+pub use printer::{Amounts, Options};
 use printer::{ERASE, Ended, Source, Stopped, print_run};
 use scripts::{Mode, Script, ScriptFault, one_answer};
 use std::alloc::{AllocError, Global};

@@ -526,12 +526,12 @@ pub fn run<R: Threads + Wait + Sync, I: Read, O: Write, E: Write>(
     err: &mut E,
 ) -> u8
     ensures success_or_failure { result ≤ 1 }
-    // Where it is 0, `out` got what a run of the script prints, `audit ok` behind it, and `err` nothing.
+    // If it is 0, `out` got what a run of the script prints and then `audit ok`, and `err` got nothing.
     ensures sound { result ≡ 0 → IfSome (I.remaining script.old) (λ all. PrintsScriptOnThreads Own all Verdict.Fine (O.contents out.old) (O.contents out.new)) }
     ensures silent { result ≡ 0 → Keeps (E.contents err.old) (E.contents err.new) }
-    // Of a script with a faulty line it is 1, and `out` got nothing.
+    // For a script with a faulty line it is 1, and `out` got nothing.
     ensures faulty { IfSome (I.remaining script.old) (λ all. (n : ℕ) (cause : Cause) → IsFirstFault Run (lines all) n cause → (result ≡ 1) × Keeps (O.contents out.old) (O.contents out.new)) }
-    // So of one with more actors than can run at once.
+    // The same holds for a script with more actors than can run at once.
     ensures crowd { IfSome (I.remaining script.old) (λ all. MOST_ACTORS < actors_of_script all → (result ≡ 1) × Keeps (O.contents out.old) (O.contents out.new)) }
 {
     let ran = read_and_run(rt, alloc, script, out);

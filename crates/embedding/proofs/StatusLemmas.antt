@@ -4,7 +4,7 @@ use Rattle.scripts.specs.declared.fault.ScriptFault.TheVariants as at
 use Rattle.printer.specs.declared.options.Options.{Options}
 use Rattle.subcommands.specs.declared.fault.Fault.{Fault}
 use Rattle.subcommands.specs.declared.fault.Fault.TheVariants as fault
-use Rattle.memcgrun_c.specs.Calls.{status_by, IsUnsound, WhyNot}
+use Rattle.embedding.specs.Calls.{status_by, IsUnsound, WhyNot}
 
 -- a bad script's fault is why it can't be run
 unsound_by : (options : Options) (file script : List ℕ) (why : Fault) → WhyNot options file script why → status_by why ≡ 1 → IsUnsound script

@@ -1,5 +1,5 @@
--- What a call from another language says of a script.
-use Rattle.std.specs.Prelude.{◌≡◌, ◌⊎◌, ℕ, ◌<◌, ◌≤◌, Bool, if◌then◌else◌, List, length, Some}
+-- What a call says of a script.
+use Rattle.std.specs.Prelude.{◌≡◌, ◌⊎◌, ℕ, ◌<◌, ◌≤◌, Bool, if◌then◌else◌, List, length, take, Some}
 use Rattle.std.specs.Io.KnownBytes.{Appends}
 use Rattle.std.specs.Str.Lines.{lines}
 use Rattle.machine.specs.declared.config.Placement.{Placement}
@@ -15,8 +15,8 @@ use Rattle.printer.specs.Asked.{plain}
 use Rattle.subcommands.specs.declared.fault.Fault.{Fault}
 use Rattle.subcommands.specs.declared.fault.Fault.TheVariants as fault
 use Rattle.subcommands.specs.Told.{Explains, AllTold, StartsReport}
-use Rattle.memcgrun_c.specs.declared.Asked.{Asked}
-use Rattle.memcgrun_c.specs.declared.status.TheConstants.{BAD_SCRIPT, NO_MEMORY, REFUSED}
+use Rattle.embedding.specs.declared.Asked.{Asked}
+use Rattle.embedding.specs.declared.status.TheConstants.{BAD_SCRIPT, NO_MEMORY, REFUSED}
 
 -- ---- what is asked
 
@@ -76,3 +76,11 @@ pub record TellsPart (options : Options) (file script said text : List ℕ) : Ty
   pub why : Fault
   pub reason : WhyNot options file script why
   pub tells : StartsReport why (Some said) (Some text)
+
+-- a text is the beginning of this one
+abbrev pub IsStart : List ℕ → List ℕ → Type 0
+IsStart name text = (count : ℕ) × (text ≡ take count name)
+
+-- the text has the beginning of a name and of the lines about a fault that is the reason. (Excludes a text of its own for too little memory.)
+abbrev pub TellsPartNamed : Options → List ℕ → List ℕ → List ℕ → List ℕ → Type 0
+TellsPartNamed options file script name text = IsStart name text ⊎ TellsPart options file script name text

@@ -1,7 +1,7 @@
 use Rattle.std.proofs.Common.{codes}
-use Rattle.memcgrun_c.specs.Calls.{chart_options_of}
-use Rattle.memcgrun_c.proofs.StatusLemmas.{bad_unsound}
-use Rattle.memcgrun_c.proofs.chart_status.Goals as goal
+use Rattle.embedding.specs.Calls.{chart_options_of}
+use Rattle.embedding.proofs.StatusLemmas.{bad_unsound}
+use Rattle.embedding.proofs.chart_status.Goals as goal
 
 pub returns-in-Err-clause-bad : goal.returns-in-Err-clause-bad
 returns-in-Err-clause-bad c = bad_unsound (chart_options_of c.args.asked) (codes "script") _ _ c.in-Err.ensures.why _ c.tell.ensures.either

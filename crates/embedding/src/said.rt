@@ -1,9 +1,12 @@
 //! The messages of a run, besides its answers.
 
-ghost use Rattle.std.specs.Prelude.{◌≡◌, ◌≢◌, ◌⊎◌, [], Some};
-ghost use Rattle.std.specs.Io.KnownBytes.{Appends};
-ghost use Rattle.memcgrun_c.specs.declared.status.TheConstants.{NO_MEMORY};
-ghost use Rattle.memcgrun_c.specs.Calls.{status_by};
+ghost use Rattle.std.specs.Prelude.{◌≡◌, ◌≢◌, ◌⊎◌, [], Some, false, true, length, IfOk, IfErr, IsOk, OnOk, OnErr};
+ghost use Rattle.std.specs.Io.{WritesAtMost};
+ghost use Rattle.std.specs.Io.KnownBytes.{Appends, Keeps, WriteAppends};
+ghost use Rattle.std.specs.IoError.{error_kind};
+ghost use Rattle.std.specs.declared.io.ErrorKind.TheVariants.{OutOfMemory};
+ghost use Rattle.embedding.specs.declared.status.TheConstants.{NO_MEMORY};
+ghost use Rattle.embedding.specs.Calls.{status_by};
 ghost use Rattle.subcommands.specs.Told.{AllTold, StartsReport};
 
 use crate::status::{BAD_SCRIPT, NO_MEMORY, REFUSED};
@@ -23,7 +26,8 @@ pub struct Said {
 
 impl Said {
     pub fn new(alloc: Global) -> Said
-        ensures { result.bytes.items ≡ [] }
+        ensures none { result.bytes.items ≡ [] }
+        ensures whole { result.is_cut ≡ false }
     {
         Said {
             bytes: Vec::new(alloc),
@@ -37,7 +41,15 @@ impl Write for Said {
 
     ghost contents = { λ s. Some s.bytes.items };
 
-    fn write(&mut self, buf: &[u8]) -> io::Result<usize> {
+    /// Keeps all bytes, or remembers that there was no memory for them.
+    fn write(&mut self, buf: &[u8]) -> io::Result<usize>
+        ensures bound { WritesAtMost result buf.now }
+        ensures bytes { WriteAppends (Some self.old.bytes.items) (Some self.new.bytes.items) result buf.now }
+        ensures count { IfOk result (λ n. n ≡ length buf.now) }
+        ensures kind { IfErr result (λ e. error_kind e ≡ OutOfMemory) }
+        ensures kept { OnOk result (self.new.is_cut ≡ self.old.is_cut) }
+        ensures cut { OnErr result (self.new.is_cut ≡ true) }
+    {
         let written = self.bytes.write(buf);
         if written.is_err() {
             self.is_cut = true;
@@ -45,7 +57,11 @@ impl Write for Said {
         written
     }
 
-    fn flush(&mut self) -> io::Result<()> {
+    fn flush(&mut self) -> io::Result<()>
+        ensures bytes { Keeps (Some self.old.bytes.items) (Some self.new.bytes.items) }
+        ensures ok { IsOk result }
+        ensures unchanged { self.new ≡ self.old }
+    {
         Ok(())
     }
 }

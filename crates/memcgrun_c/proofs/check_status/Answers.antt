@@ -1,7 +1,0 @@
-use Rattle.std.proofs.Common.{[]}
-use Rattle.printer.specs.Asked.{plain_as}
-use Rattle.memcgrun_c.proofs.StatusLemmas.{bad_unsound}
-use Rattle.memcgrun_c.proofs.check_status.Goals as goal
-
-pub returns-in-Err-clause-bad : goal.returns-in-Err-clause-bad
-returns-in-Err-clause-bad c = bad_unsound (plain_as c.args.placement) [] _ _ c.in-Err.ensures.why _ c.tell_named.ensures.either
