@@ -1,5 +1,5 @@
 #!/usr/bin/env python3
-"""Prints what the sources say, and checks the pages for docs/check.
+"""Prints what the sources say. docs/check uses it too.
 
     docs/tool.py tables [CRATE]   each definition: what it says and what it excludes
     docs/tool.py laws             each law, in a sentence
@@ -7,18 +7,21 @@
     docs/tool.py crates           the picture of the crates, which is docs/crates.svg
     docs/tool.py cases examples   what the examples and docs/SCRIPTS.md say that is printed, as crates/cases/data/examples.cases
     docs/tool.py cases kernel     what is printed to the scripts that Linux answers too, as crates/cases/data/kernel.cases
-    docs/tool.py pages            what is wrong with the crates' pages, as docs/check_pages
     docs/tool.py phrases [PAGE]   the sentences of a page, or of the comments of a NAME.rt, that docs/phrases finds, with what to write instead
     docs/tool.py sample PAGE      ten sentences at random, to be read cold: what does each say, and was it read twice?
     docs/tool.py counts [--all]   how many of them each page has, and how many words; docs/counts keeps what fell, or all
-    docs/tool.py check            what is wrong with the pages, for docs/check
 """
+import collections
 import glob
 import itertools
 import os
 import random
 import re
 import sys
+
+sys.dont_write_bytecode = True
+sys.path.insert(0, os.path.dirname(os.path.abspath(__file__)))
+from cases import answered_lines  # noqa: E402
 
 os.chdir(os.path.dirname(os.path.dirname(os.path.abspath(__file__))))
 
@@ -38,12 +41,12 @@ SPECIFICATIONS = """
     turns/specs/Tickets.antt driver/specs/Hands.antt marks/specs/Logs.antt
     scripts/specs/Words.antt scripts/specs/Forms.antt scripts/specs/Meaning.antt scripts/specs/Header.antt scripts/specs/Context.antt
     scripts/specs/Faults.antt scripts/specs/Script.antt scripts/specs/Work.antt scripts/specs/FaultTexts.antt
-    printer/specs/Asked.antt printer/specs/Prints.antt subcommands/specs/Scripts.antt subcommands/specs/Told.antt
+    printer/specs/Asked.antt printer/specs/Amounts.antt printer/specs/Prints.antt subcommands/specs/Scripts.antt subcommands/specs/Told.antt
     live/specs/Exchanges.antt live/specs/Passes.antt live/specs/Works.antt live/specs/Shares.antt live/specs/Matching.antt live/specs/Reports.antt live/specs/Crews.antt live/specs/Told.antt live/specs/OneRun.antt
     subcommands/specs/Threads.antt subcommands/specs/Actors.antt
     expectations/specs/Expected.antt
-    book/specs/Looks.antt charts/specs/Watched.antt charts/specs/Listed.antt printer/specs/Paths.antt subcommands/specs/Charted.antt
-    memcgrun_c/specs/Buffers.antt memcgrun_c/specs/Calls.antt
+    book/specs/Looks.antt charts/specs/Watched.antt charts/specs/Phased.antt charts/specs/Listed.antt printer/specs/Paths.antt subcommands/specs/Charted.antt
+    embedding/specs/Buffers.antt embedding/specs/Calls.antt
     laws/specs/Laws.antt""".split()
 
 
@@ -252,7 +255,7 @@ def print_map(crate=None):
 
 # How the picture of the crates is drawn, in pixels. Crates that are tests are left out.
 BOX, GAP, ROW, MARGIN = 112, 12, 58, 16
-TESTS = {"cases", "acceptance", "streams", "slow_device", "shortages", "leaves", "callers", "overlaps", "computed"}
+TESTS = {"cases", "acceptance", "streams", "slow_device", "shortages", "leaves", "callers", "overlaps", "computed", "computed_turns"}
 
 
 def layers():
@@ -357,21 +360,26 @@ def print_crates():
 # ---- cases
 
 
+class Script:
+    """A script, without its comments and with what its lines `#> ` expect: `script` has no such lines, and `expected` has them."""
+
+    def __init__(self, path):
+        first, *rest = lines_of(path)
+        self.title = first[2:]
+        self.script, self.expected, self.prints = [], [], []
+        for _, line, answers in answered_lines(rest):
+            self.script.append(line)
+            self.expected += [line, *(f"#> {answer}" for answer in answers)]
+            self.prints += answers
+        self.on_threads = any(line.startswith("# On threads the same is printed, and `audit ok` behind it.") for line in rest)
+        self.checked = f": ok, {len(self.prints)} answer{'' if len(self.prints) == 1 else 's'}"
+
+
 def script_case(path, name, line=None):
-    """A script as a case, with what its lines `#> ..` expect. Its name is the file's with its first line. `line` is one more line of the case."""
-    first, *rest = lines_of(path)
-    script, printed, threads = [], [], []
-    for said in [first] + rest:
-        # An answer follows '#> ', after the line that prints it, and a check has to find it there.
-        if said.startswith("#> "):
-            printed.append(said[3:])
-            script.append(said)
-        elif not said.startswith("#"):
-            script.append(said)
-        elif said.startswith("# On threads the same is printed, and `audit ok` behind it."):
-            threads = ["-- on threads"]
-    checked = f"-- checked: ok, {len(printed)} answer{'' if len(printed) == 1 else 's'}"
-    return ["", f"== {name}: {first[2:]}", *([line] if line else []), *script, *threads, checked, "-- prints", *printed]
+    """A script as a case, named after its file with its first line. `line` is one more line of the case."""
+    it = Script(path)
+    more = ["-- on threads"] if it.on_threads else []
+    return ["", f"== {name}: {it.title}", *([line] if line else []), *it.expected, *more, f"-- checked{it.checked}", "-- prints", *it.prints]
 
 
 def spans_of(cell):
@@ -499,34 +507,68 @@ def first_word(text):
     return re.match(r"[A-Za-z_0-9]*", text)[0]
 
 
+def closing(text, at):
+    """The place of the bracket that closes the one at this place. The one of an arrow closes none."""
+    depth = 0
+    while True:
+        if text[at] in "([{<":
+            depth += 1
+        elif text[at] in ")]}" or (text[at] == ">" and text[at - 1] != "-"):
+            depth -= 1
+        if depth == 0:
+            return at
+        at += 1
+
+
+def parameters(text):
+    """The names of the parameters between brackets, without self."""
+    parts, at, begun = [], 0, 0
+    while at < len(text):
+        if text[at] in "([{<":
+            at = closing(text, at)
+        elif text[at] == ",":
+            parts.append(text[begun:at])
+            begun = at + 1
+        at += 1
+    names = [part.partition(":")[0].replace("mut ", "").strip() for part in [*parts, text[begun:]]]
+    return ", ".join(name for name in names if name and not re.fullmatch(r"&?('[a-z_]+ )?self", name))
+
+
+# A call: the type or the trait that it is of, or ""; whether it is `pub` itself; and whether it is one of a trait.
+Call = collections.namedtuple("Call", "type name is_pub in_trait parameters clauses")
+
+
+def calls(path):
+    """The functions and methods of a source file, without its tests."""
+    with open(path, encoding="utf-8") as file:
+        text = re.sub(r"(?m)^\s*//.*\n", "", file.read())
+    of, in_trait = "", False
+    for found in re.finditer(r"(?m)^(impl.*|pub trait .*|})|^(    |)(pub |pub\(crate\) |)(?:const |extern \"C\" )?fn ([a-z_0-9]+)", text):
+        head = found[1]
+        if head:
+            rest = after_generics(head[4:]) if head.startswith("impl") else head[len("pub trait ") :]
+            in_trait = head.startswith("pub trait") or " for " in rest
+            of = first_word(re.sub("^(?:[^A-Za-z0-9_]|[a-z_]+::)*", "", rest.rpartition(" for ")[2]))
+        elif bool(found[2]) == bool(of):
+            at = found.end()
+            if text[at] == "<":
+                at = closing(text, at) + 1
+            end = closing(text, at)
+            # The contract is between the head and the brace of the body, or the end of a method without one.
+            contract = text[end : re.compile(r"(?m)[{;]$|^ *{").search(text, end).start()]
+            yield Call(of, found[4], found[3] == "pub ", in_trait, parameters(text[at + 1 : end]), re.findall(r"(?m)^ *ensures ([a-z_]+) {", contract))
+
+
 def public_names(crate):
     """What is public in a crate's sources, and the clauses of its calls, as pairs."""
     public, clauses = set(), set()
-    for path in sorted(glob.glob(f"crates/{crate}/src/*.rt")):
-        type_name, call, all_public = "", "", False
-        for line in lines_of(path):
-            head = re.match(r'(pub )?(const |extern "C" )?(struct|enum|trait|type|const|fn) ', line)
-            method = re.match(r"    (pub(?:\(crate\))? )?(const )?fn ", line)
-            clause = re.match(r" *ensures ([a-z_]+) \{", line)
-            if head:
-                name = first_word(line[head.end() :])
-                type_name, call = "", name if head[3] == "fn" else ""
-                if head[1] or call == "main":
-                    public.add(name)
-                if head[3] == "trait":
-                    type_name, all_public = name, True
-            elif line.startswith("impl"):
-                of = after_generics(line[4:])
-                all_public = " for " in of
-                type_name, call = first_word(of.rpartition(" for ")[2]), ""
-            elif line.startswith("}"):
-                type_name = call = ""
-            elif type_name and method:
-                call = f"{type_name}::{first_word(line[method.end():])}"
-                if all_public or method[1] == "pub ":
-                    public.add(call)
-            elif clause:
-                clauses.add((call, clause[1]))
+    for path in glob.glob(f"crates/{crate}/src/*.rt"):
+        public.update(re.findall(r"(?m)^pub (?:const |struct |enum |trait |type )([A-Za-z_0-9]+)", "\n".join(lines_of(path))))
+        for call in calls(path):
+            name = f"{call.type}::{call.name}" if call.type else call.name
+            if call.is_pub or call.in_trait or name == "main":
+                public.add(name)
+            clauses.update((name, clause) for clause in call.clauses)
     return public, clauses
 
 
@@ -610,19 +652,13 @@ def wrong_page(crate):
         yield number, "a block of code without an end"
 
 
-def check_crate_pages():
-    wrong = []
+def wrong_crate_pages():
     for crate, _ in crate_lines():
         page = f"crates/{crate}/README.md"
         if not os.path.exists(page):
-            wrong.append(f"{crate} has no page {page}")
+            yield f"{crate} has no page {page}"
         else:
-            wrong += [f"{page}:{number}: {what}" for number, what in wrong_page(crate)]
-    for line in wrong:
-        print(f"docs: {line}", file=sys.stderr)
-    if wrong:
-        sys.exit(1)
-    print("docs: each crate has a page, whose code and names are those of the sources")
+            yield from (f"{page}:{number}: {what}" for number, what in wrong_page(crate))
 
 
 # ---- how the pages are written
@@ -792,7 +828,7 @@ def write_counts(option=None):
 
 
 # The crates whose strings a user reads.
-TELLING = ("charts", "expectations", "explain", "machine", "memcgrun", "memcgrun_c", "printer", "scenarios", "scripts", "subcommands")
+TELLING = ("charts", "embedding", "expectations", "explain", "machine", "memcgrun", "printer", "scenarios", "scripts", "subcommands")
 
 
 def messages():
@@ -859,22 +895,18 @@ def wrong_places():
     return wrong
 
 
-def check():
-    """What is wrong, a line each, for docs/check."""
-    wrong = []
+def faults():
+    """What is wrong with the sentences of laws and lemmas, the picture of the crates, the places that MAP names, and how pages are written."""
     for name, says in laws():
         if not says:
-            wrong.append(f"crates/laws/src/lib.rt: the law {name} has no sentence")
+            yield f"crates/laws/src/lib.rt: the law {name} has no sentence"
     for crate, _ in crate_lines():
-        wrong += [f"crates/{crate}/proofs/{file}.antt does not begin with a comment" for file, says in lemma_files(crate) if not says]
-        wrong += [f"crates/{crate}/src/{file} does not begin with a comment" for file, says in source_files(crate) if not says]
+        yield from (f"crates/{crate}/proofs/{file}.antt does not begin with a comment" for file, says in lemma_files(crate) if not says)
+        yield from (f"crates/{crate}/src/{file} does not begin with a comment" for file, says in source_files(crate) if not says)
     with open("docs/crates.svg", encoding="utf-8") as file:
         if file.read() != picture():
-            wrong.append("docs/crates.svg is not what docs/tool.py crates prints")
-    wrong += wrong_commands() + wrong_places() + wrong_messages()
-    wrong += risen()
-    for line in wrong:
-        print(line)
+            yield "docs/crates.svg is not what docs/tool.py crates prints"
+    yield from wrong_commands() + wrong_places() + wrong_messages() + risen()
 
 
 COMMANDS = {
@@ -883,11 +915,9 @@ COMMANDS = {
     "map": print_map,
     "crates": print_crates,
     "cases": print_cases,
-    "pages": check_crate_pages,
     "phrases": print_phrases,
     "sample": print_sample,
     "counts": write_counts,
-    "check": check,
 }
 
 

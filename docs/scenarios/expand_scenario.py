@@ -18,9 +18,11 @@ import sys
 from dataclasses import dataclass, field
 from fractions import Fraction
 
+from fault_texts import (
+    ACTS, EXPECTED_IN, NOT_A_PART, expected, no_group, no_parent, no_task, too_little, too_much_at_once, too_much_memory, too_much_of_files, wrong_page)
 from scenario_text import (
     EVENTS, HEADER, KEYS, LANGUAGE, OPERATORS, U32, U64, Block, Fault, Line, Word, Words, check_raw, drawn, fill, is_path, name_and_index, names_of,
-    number_of, read_scenario, read_words, size_of, task_name)
+    number_of, read_scenario, read_words, size_of, task_name, told)
 
 MOST_FRAMES = 65_536
 MOST_SWAP = 65_536
@@ -30,6 +32,10 @@ MOST_TASKS = 65_535
 TASK_PAGES = 1_024
 MOST_ROUNDS = MOST_DRAWS = 1_000_000
 SCRIPT_PAGE = 4_096
+EXPECTED = ('in', 'out', 'dropped', 'killed', 'alive', 'nobody', 'refused')
+WATERMARKS = 'the watermarks are not in order, or above the memory'
+PAST_END = 'there are not so many pages; take a larger page, or more tasks'
+NOT_TOGETHER, NO_UNTIL = 'not allowed inside together', 'no until inside together or another until'
 PAGE_SIZES = [SCRIPT_PAGE << power for power in range(15)]
 
 
@@ -80,6 +86,8 @@ class Expansion:
         self.tasks, self.marks, self.places = {}, {}, {}
         self.orders, self.in_until, self.until = itertools.count(), False, None
         self.rounded, self.said = {}, ''
+        # For each list with `until`: its line, and how many entries were made when it had ended.
+        self.closed = []
         lines = self.read_header(items)
         self.entries = [entry for entry in self.expand(items[lines:]) if not entry.unreached]
         if self.until is None and self.cuts:
@@ -106,9 +114,9 @@ class Expansion:
                     break
         said = set()
         for words in read:
-            word = words.next('')
+            word = words.next()
             if word.plain in said and word.plain not in ('file', 'fault'):
-                raise word.fault('the header has this line already')
+                raise word.fault('the header already has this line')
             said.add(word.plain)
             getattr(self, 'read_' + word.plain)(words)
             words.done()
@@ -126,43 +134,43 @@ class Expansion:
             words.at = 0
 
     def read_page(self, words):
-        word = words.next('a size')
+        word = words.next()
         page = size_of(word, word.text, SCRIPT_PAGE)
         if page not in PAGE_SIZES:
-            raise word.fault('a page has 4K, 8K, 16K .. or 64M')
+            raise word.fault(wrong_page(math.ceil(page)))
         self.header.page = int(page)
 
     def read_memory(self, words):
-        self.header.frames = self.within(words.next('a size'), self.down, 1, MOST_FRAMES)
+        self.header.frames = self.within(words.next(), self.down, 1, MOST_FRAMES, too_much_memory)
 
     def read_swap(self, words):
-        self.header.swap = self.within(words.next('a size'), self.down, 0, MOST_SWAP)
+        self.header.swap = self.within(words.next(), self.down, 0, MOST_SWAP, too_much_memory)
 
     def read_watermarks(self, words):
-        low, high = words.next('a size'), words.next('a second size')
+        low, high = words.next(), words.next()
         pages = self.down(low), self.down(high)
         if pages[0] > pages[1]:
-            raise low.fault('above the second watermark')
+            raise low.fault(WATERMARKS)
         if pages[1] > self.header.frames:
-            raise high.fault('more than the memory')
+            raise high.fault(WATERMARKS)
         self.header.watermarks = pages
 
     def read_file(self, words):
-        name = words.next('a name')
+        name = words.next()
         if name.text in ('', '.', '..'):
-            raise name.fault('no name of a file')
+            raise name.fault('not a name')
         if name.text in self.header.files:
-            raise name.fault('there is a file of this name')
+            raise name.fault('there is already a file of this name')
         used = self.header.swap + sum(self.header.files.values())
-        pages = self.within(words.next('a size'), self.up, 1, MOST_BLOCKS - used)
+        pages = self.within(words.next(), self.up, 1, MOST_BLOCKS - used, lambda text, exact, page, _: too_much_of_files(text, exact, page, MOST_BLOCKS, used))
         if len(self.header.files) == MOST_FILES:
-            raise words.words[0].fault(f'more than {MOST_FILES} files')
+            raise words.words[0].fault('more files than there can be')
         self.script_name(name.text)
         self.header.files[name.text] = pages
 
     def read_fault(self, words):
         call = words.one_of(('read', 'write'))
-        self.header.faults.append((call, number_of(words.next('a number'), 1, U32 - 1)))
+        self.header.faults.append((call, number_of(words.next(), 1, U32 - 1)))
 
     def read_protection(self, words):
         self.header.recursive = words.one_of(('recursive', 'plain')) == 'recursive'
@@ -190,29 +198,29 @@ class Expansion:
 
     def block(self, block):
         words = self.words_of(block.head)
-        if words.next('').plain == 'together':
+        if words.next().plain == 'together':
             words.done()
             return self.together(block)
         return self.repeat(block, words)
 
     def repeat(self, block, words, inside=None):
         """The list of a `repeat`; `inside` expands the lines of a round, as `expand` unless it says otherwise."""
-        first, names, condition = words.next('how often'), [], None
+        first, names, condition = words.next(), [], None
         if words.ahead() == 'in':
-            words.next('')
+            words.next()
             self.check_name(first)
-            names, values = [first.text], [words.next('a word')]
+            names, values = [first.text], [words.next()]
             while words.peek() and words.ahead() != 'until':
-                values.append(words.next(''))
+                values.append(words.next())
         else:
             values = [None] * number_of(first, 0, MOST_ROUNDS)
             if words.ahead() == 'as':
-                words.next('')
-                names.append(self.check_name(words.next('a name')).text)
+                words.next()
+                names.append(self.check_name(words.next()).text)
         if words.ahead() == 'until':
-            word = words.next('')
+            word = words.next()
             if inside or self.in_until:
-                raise word.fault('no until inside of ' + ('together' if inside else 'another until'))
+                raise word.fault(NO_UNTIL)
             condition = self.read_condition(words, None)
         words.done()
 
@@ -244,9 +252,9 @@ class Expansion:
     def repeated(self, block):
         """A `repeat` inside of `together`."""
         words = self.words_of(block.head)
-        head = words.next('')
+        head = words.next()
         if head.plain != 'repeat':
-            raise head.fault('no together inside of together')
+            raise head.fault(NOT_TOGETHER)
         return self.repeat(block, words, lambda items: [
             entry for item in items
             for entry in (self.repeated(item) if isinstance(item, Block) else itertools.chain(*self.line(self.worked(item), None)))])
@@ -257,12 +265,12 @@ class Expansion:
         first = words.words[0]
         act = words.words[1] if len(words.words) > 1 else None
         if first.plain in LANGUAGE and first.plain not in ('daemon', 'reclaim'):
-            raise first.fault('not inside of together')
+            raise first.fault(NOT_TOGETHER)
         if first.plain not in LANGUAGE and act and act.plain in ('fork', 'exit'):
-            raise act.fault('not inside of together')
+            raise act.fault(NOT_TOGETHER)
         for word in words.words[2:3]:
             if word.plain == 'until' and act.plain == 'write':
-                raise word.fault('no until inside of together')
+                raise word.fault(NO_UNTIL)
         return words
 
     def cut(self, longest, condition, words):
@@ -272,6 +280,7 @@ class Expansion:
         made = longest()
         self.in_until = False
         condition = self.judge_condition(condition)
+        self.closed.append((words[0].line, next(self.orders)))
         if self.until:
             return made
         lines = [at for at, entry in enumerate(made, 1) if not entry.note]
@@ -310,7 +319,7 @@ class Expansion:
             if word == 'let':
                 self.let(words)
                 return []
-            words.next('')
+            words.next()
             handler = getattr(self, 'line_' + word)
             made = handler(words, first.line, above) if word == 'expect' else handler(words, first.line)
             return [made]
@@ -319,14 +328,14 @@ class Expansion:
         return self.task_line(words)
 
     def let(self, words):
-        words.next('')
-        name, value = self.check_name(words.next('a name')), words.next('a word')
+        words.next()
+        name, value = self.check_name(words.next()), words.next()
         words.done()
         self.scopes[-1][name.text] = self.settings.get(name.text, value)
 
     def check_name(self, word):
         if not word.plain or word.outside('{}'):
-            raise word.fault('no name for a word')
+            raise word.fault('not a name')
         return word
 
     # Sizes of the scenario's pages.
@@ -346,10 +355,13 @@ class Expansion:
     def down(self, word):
         return self.round_size(word, word.text, False)
 
-    def within(self, word, rounding, low, high):
-        pages = rounding(word)
-        if not low <= pages <= high:
-            raise word.fault(f'{pages} pages, and not {low} to {high}')
+    def within(self, word, rounding, low, high, too_much):
+        """The pages of a size, if they are so many. `too_much` gives the text for more."""
+        pages, page = rounding(word), self.header.page
+        if pages < low:
+            raise word.fault(too_little(page))
+        if pages > high:
+            raise word.fault(too_much(word.text, math.ceil(size_of(word, word.text, page)), page, high))
         return pages
 
     def bytes_of(self, word, rounding):
@@ -359,13 +371,13 @@ class Expansion:
         """The first page of a part, and the one after its last."""
         begin, dots, end = word.text.partition('..')
         if word.has_quotes or not dots:
-            raise word.fault('expected a part, as 0..5M')
+            raise word.fault(NOT_A_PART)
         page = self.header.page
-        if size_of(word, begin, page) >= size_of(word, end, page):
+        if size_of(word, begin, page, True) >= size_of(word, end, page, True):
             raise word.fault('an empty part')
         first, after = self.round_size(word, begin, False), self.round_size(word, end, True)
         if after > most:
-            raise word.fault(f'page {after - 1}, and there are {most}')
+            raise word.fault(PAST_END)
         return first, after
 
     # Groups.
@@ -381,18 +393,21 @@ class Expansion:
     def group_there(self, word, root=True):
         names = names_of(word)
         if names and names not in self.groups:
-            raise word.fault('there is no such group')
+            raise word.fault(no_group(word.text, self.paths()))
         if not names and not root:
-            raise word.fault('not of the root group')
+            raise word.fault('not allowed for the root group')
         return names
 
+    def paths(self):
+        return ['/' + '/'.join(names) for names in self.groups]
+
     def line_group(self, words, line):
-        path = words.next('a path')
+        path = words.next()
         names = names_of(path)
         if names in self.groups or not names:
-            raise path.fault('the group is there')
+            raise path.fault('the group is already there')
         if names[:-1] and names[:-1] not in self.groups:
-            raise path.fault('its parent is not there')
+            raise path.fault(no_parent(path.text, self.paths()))
         self.groups[names] = next(self.made)
         script_path = self.script_path(names)
         made = [self.entry(line, f'group {script_path}')]
@@ -401,11 +416,11 @@ class Expansion:
         return made
 
     def key_and_value(self, words, line, script_path):
-        word = words.next('a key')
+        word = words.next()
         key = (word.plain or '').removeprefix('memory.')
         if key not in KEYS:
-            raise word.fault('expected max, min, low or oom.group')
-        value = words.next('a value')
+            raise word.fault(expected(word, 'max, min, low or oom.group', KEYS))
+        value = words.next()
         if key == 'oom.group':
             if value.plain not in ('0', '1'):
                 raise value.fault('expected 0 or 1')
@@ -415,19 +430,19 @@ class Expansion:
         return self.entry(line, f'set {script_path} memory.{key} {text}')
 
     def line_set(self, words, line):
-        names = self.group_there(words.next('a path'))
+        names = self.group_there(words.next())
         made = [self.key_and_value(words, line, self.script_path(names))]
         words.done()
         return made
 
     def line_reclaim(self, words, line):
-        names = self.group_there(words.next('a path'))
-        text = self.bytes_of(words.next('a size'), self.down)
+        names = self.group_there(words.next())
+        text = self.bytes_of(words.next(), self.down)
         words.done()
         return [self.entry(line, f'set {self.script_path(names)} memory.reclaim {text}')]
 
     def line_rmdir(self, words, line):
-        word = words.next('a path')
+        word = words.next()
         names = self.group_there(word, root=False)
         words.done()
         if any(other[:len(names)] == names and other != names for other in self.groups):
@@ -439,40 +454,41 @@ class Expansion:
 
     def new_task(self, word, name, index):
         if (name, index) in self.tasks:
-            raise word.fault('there is a task of this name')
+            raise word.fault('there is already a task of this name')
         if len(self.tasks) == MOST_TASKS:
-            raise word.fault(f'more than {MOST_TASKS} tasks')
+            raise word.fault('more tasks than there can be')
         self.tasks[name, index] = number = len(self.tasks) + 1
         return number
 
     def line_task(self, words, line):
-        word = words.next('a name')
+        word = words.next()
         name, index = name_and_index(word)
         if index == '*':
-            raise word.fault('expected NAME, NAME[I] or NAME[I..J]')
-        words.one_of(('in',))
-        path = self.script_path(self.group_there(words.next('a path')))
+            raise word.fault('not a name')
+        words.one_of(('in',), EXPECTED_IN.removeprefix('expected '))
+        path = self.script_path(self.group_there(words.next()))
         words.done()
         numbers = [None] if index is None else range(index[0], index[1] + 1)
         return [self.entry(line, f'task {self.new_task(word, name, number)} {path}') for number in numbers]
 
-    def tasks_named(self, word, ranges=True):
+    def tasks_named(self, word, ranges=True, begins=False):
+        """The numbers of the tasks that a word names; `begins` says whether it is the first of its line."""
         name, index = name_and_index(word, ranges)
         if index == '*':
             found = [number for (other, _), number in self.tasks.items() if other == name]
             if not found:
-                raise word.fault('there is no task of this name')
+                raise word.fault(no_task(word, self.tasks, begins, LANGUAGE))
             return found
         found = []
         for number in [None] if index is None else range(index[0], index[1] + 1):
             if (name, number) not in self.tasks:
-                raise word.fault('there is no such task')
+                raise word.fault(no_task(word, self.tasks, begins, LANGUAGE))
             found.append(self.tasks[name, number])
         return found
 
     def line_attach(self, words, line):
-        tasks = self.tasks_named(words.next('a task'))
-        path = self.script_path(self.group_there(words.next('a path')))
+        tasks = self.tasks_named(words.next())
+        path = self.script_path(self.group_there(words.next()))
         words.done()
         return [self.entry(line, f'attach {task} {path}') for task in tasks]
 
@@ -481,9 +497,9 @@ class Expansion:
         return [self.entry(line, 'daemon')]
 
     def task_line(self, words):
-        first = words.next('')
-        tasks = self.tasks_named(first)
-        act = words.one_of(('write', 'read', 'free', 'fork', 'exit', 'fread', 'fwrite'), 'what the task does')
+        first = words.next()
+        tasks = self.tasks_named(first, begins=True)
+        act = words.one_of(ACTS, 'write, read, free, fork, exit, fread or fwrite')
         rest = words.at
         lists = []
         names = {number: name for name, number in self.tasks.items()}
@@ -496,10 +512,10 @@ class Expansion:
 
     def act_write(self, words, line, task):
         mark = self.marks.get(task, 0)
-        word = words.next('a size, a part or until')
+        word = words.next()
         if word.plain == 'until':
             if self.in_until:
-                raise word.fault('no until inside of another')
+                raise word.fault(NO_UNTIL)
             condition = self.read_condition(words, task)
             words.done()
             return self.cut(lambda: self.written(line, task, range(mark, TASK_PAGES)), condition, words.words)
@@ -507,7 +523,7 @@ class Expansion:
             return self.written(line, task, self.random(words, *self.part(word, TASK_PAGES)))
         pages = self.up(word)
         if mark + pages > TASK_PAGES and self.until is None:
-            raise word.fault(f'page {mark + pages - 1} of a task, which has {TASK_PAGES}; take a larger page, or more tasks')
+            raise word.fault(PAST_END)
         return self.written(line, task, range(mark, min(mark + pages, TASK_PAGES)))
 
     def written(self, line, task, pages):
@@ -516,17 +532,17 @@ class Expansion:
     def act_read(self, words, line, task):
         part = (0, self.marks.get(task, 0))
         if words.peek() and words.ahead() != 'random':
-            part = self.part(words.next(''), TASK_PAGES)
+            part = self.part(words.next(), TASK_PAGES)
         return [self.entry(line, f'{task} read {page} 0') for page in self.random(words, *part)]
 
     def random(self, words, first, end):
         """The pages of a part, or those that are drawn of it."""
         if words.ahead() != 'random':
             return range(first, end)
-        words.next('')
-        count = number_of(words.next('a number'), 1, MOST_DRAWS)
-        words.one_of(('seed',))
-        seed = number_of(words.next('a number'), 0, U32 - 1)
+        words.next()
+        count = number_of(words.next(), 1, MOST_DRAWS)
+        words.one_of(('seed',), '"seed" here')
+        seed = number_of(words.next(), 0, U32 - 1)
         return drawn(first, end, count, seed) if first < end else []
 
     def act_free(self, words, line, task):
@@ -539,7 +555,7 @@ class Expansion:
             else:
                 pages = self.down(word)
                 if pages > mark and self.until is None:
-                    raise word.fault(f'{pages} pages, and the task has {mark}')
+                    raise word.fault('the task has not so many pages')
                 first = lowered = max(mark - pages, 0)
         made = [self.entry(line, f'{task} free {page}') for page in range(first, end)]
         if made:
@@ -548,7 +564,7 @@ class Expansion:
         return made
 
     def act_fork(self, words, line, task):
-        word = words.next('a name')
+        word = words.next()
         name, index = name_and_index(word, ranges=False)
         child = self.new_task(word, name, index[0] if index else None)
         return [self.entry(line, f'{task} fork {child}', ('mark', child, self.marks.get(task, 0)))]
@@ -563,32 +579,33 @@ class Expansion:
         return self.file_line(words, line, task, 'fwrite', ' 1')
 
     def file_line(self, words, line, task, act, byte):
-        word = words.next('a file')
+        word = words.next()
         if word.text not in self.header.files:
             raise word.fault('there is no such file')
         size, name = self.header.files[word.text], self.script_name(word.text)
         if words.ahead() == 'next':
-            words.next('')
+            words.next()
             at = self.places.get((task, word.text), 0)
-            pages = [(at + i) % size for i in range(self.up(words.next('a size')))]
+            count = self.within(words.next(), self.up, 0, MOST_DRAWS, lambda _, exact, page, most: too_much_at_once(page, most))
+            pages = [(at + i) % size for i in range(count)]
             return [self.entry(line, f'{task} {act} {name} {page} 0{byte}', ('place', (task, word.text), (page + 1) % size)) for page in pages]
         part = (0, size)
         if words.peek() and words.ahead() != 'random':
-            part = self.part(words.next(''), size)
+            part = self.part(words.next(), size)
         return [self.entry(line, f'{task} {act} {name} {page} 0{byte}') for page in self.random(words, *part)]
 
     # Conditions, tables and expectations.
 
     def read_condition(self, words, task):
         """The words of a condition, and the task whose `write` has it."""
-        word = words.next('killed or a path')
+        word = words.next()
         if word.plain == 'killed':
-            name = words.next_or_none() if task else words.next('a name')
+            name = words.next_or_none() if task else words.next()
             return 'killed', name or task
         if not is_path(word):
-            raise word.fault('expected killed or a path')
-        words.one_of(('current',))
-        return 'current', word, words.next('a size')
+            raise word.fault(expected(word, 'killed or a path', ('killed',)))
+        words.one_of(('current',), '"current" here')
+        return 'current', word, words.next()
 
     def judge_condition(self, condition):
         """The condition of tasks and groups that are there once the longest list was made: the task's number, or the path and how many pages."""
@@ -612,35 +629,36 @@ class Expansion:
         return self.note(words, line, 'mark', ' '.join(word.text for word in words.words[1:]), self.shown(self.groups))
 
     def line_expect(self, words, line, above):
-        word = words.next('what is expected')
+        word = words.next()
         if is_path(word):
             names = self.group_there(word, root=False)
-            key = words.one_of(('current', 'anon', 'file') + tuple(f'events.{event}' for event in EVENTS), 'current, anon, file or events.NAME')
+            key = words.one_of(('current', 'anon', 'file') + tuple(f'events.{event}' for event in EVENTS),
+                               'current, anon, file or events.low, .max, .oom, .oom_kill, .oom_group_kill')
             what = ('group', self.shown([names])[0], key, *self.compared(words, key.startswith('events.')))
         elif word.plain in ('in', 'out', 'dropped'):
             what = ('machine', word.plain, *self.compared(words, False))
         elif word.plain in ('killed', 'alive'):
-            what = (word.plain, [self.tasks_named(name, ranges=False)[0] for name in words.rest('a name')])
+            what = (word.plain, [self.tasks_named(name, ranges=False)[0] for name in words.rest()])
         elif word.plain == 'nobody':
-            words.one_of(('killed',))
+            words.one_of(('killed',), '"killed" here')
             what = ('killed', [])
         elif word.plain == 'refused':
-            what = ('refused', words.next('a word').text, above)
+            what = ('refused', words.next().text, above)
             if above is None:
                 raise word.fault('no line that could be refused is right above')
         else:
-            raise word.fault('expected a path, in, out, dropped, killed, alive, nobody or refused')
+            raise word.fault(expected(word, 'a path, in, out, dropped, killed, alive, nobody or refused', EXPECTED))
         words.done()
         return self.note(words, line, 'expect', what)
 
     def compared(self, words, is_count):
         """How a number is compared, and with what: a count, or bytes that are not rounded."""
-        operator = words.next('').plain if words.ahead() in OPERATORS else '='
-        word = words.next('a number' if is_count else 'a size')
+        operator = words.next().plain if words.ahead() in OPERATORS else '='
+        word = words.next()
         return operator, Fraction(number_of(word, 0, U64 - 1)) if is_count else size_of(word, word.text, self.header.page)
 
     def line_raw(self, words, line):
-        rest = words.rest('a line of the script')
+        rest = words.rest()
         check_raw(rest)
         return [self.entry(line, ' '.join(word.text for word in rest))]
 
@@ -711,9 +729,11 @@ def main():
         parser.error('FILE is missing')
     if options.run and not os.access(options.run, os.X_OK):
         parser.error(f'--run: there is no program {options.run}; name one, as "$(dist/take program)" does')
+    data = b''
     try:
         with open(options.file, 'rb') as file:
-            items = read_scenario(file.read())
+            data = file.read()
+        items = read_scenario(data)
         for name, _ in options.set:
             if name not in lets_of(items):
                 print(f'{options.file}: --set {name}: no let has this name', file=sys.stderr)
@@ -725,7 +745,7 @@ def main():
         sys.stdout.write(''.join(f'{line}\n' for line in expansion.script()))
         return 0
     except Fault as fault:
-        print(f'{options.file}:{fault}', file=sys.stderr)
+        print(f'{options.file}:{told(fault, data)}', file=sys.stderr)
     except (OSError, ValueError) as error:
         print(f'{options.file}: {error}', file=sys.stderr)
     return 1

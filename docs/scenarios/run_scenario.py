@@ -1,4 +1,5 @@
 """Carries out a scenario with `memcgrun schedule`, and prints what was seen: who was killed, and what each `show` and `expect` says."""
+import math
 import re
 import subprocess
 import tempfile
@@ -6,20 +7,24 @@ from dataclasses import dataclass
 from fractions import Fraction
 
 from expand_scenario import SCRIPT_PAGE, Expansion
+from moves_by_group import Moves
 from scenario_text import UNITS, Fault, task_name
 
 LOOKED_AT = ('memory.current', 'memory.stat', 'memory.events', 'memory.events.local')
 COUNTS = {'in': ('pages read in',), 'out': ('pages written to swap', 'pages written home'), 'dropped': ('pages dropped',)}
 MOST_KILLS_TOLD = 20
+# In the place of what groups moved, if that is not known.
+UNKNOWN = '?'
 COMPARED = {'=': lambda a, b: a == b, '>=': lambda a, b: a >= b, '<=': lambda a, b: a <= b}
 
 
 @dataclass
 class Run:
-    """What a run answered: pairs of a line's number and a text; why tasks were killed, in order; and the numbers of its summary."""
+    """What a run answered: pairs of a line's number and a text; why tasks were killed, in order; why lines were refused; and the numbers of its summary."""
 
     answers: list
     reasons: list
+    refusals: dict
     summary: dict
 
     def by_line(self):
@@ -44,8 +49,9 @@ class Machine:
             raise RuntimeError(f'the script was not run: {done.stderr.strip()}')
         answers = [line.partition(': ') for line in done.stdout.splitlines()]
         reasons = re.findall(r'^\S+?:[0-9]+: .*?: killed (?:group [0-9]+ )?[0-9]+: (.*)$', done.stderr, re.M)
+        refusals = {int(number): why for number, why in re.findall(r'^\S+?:([0-9]+): .*?: [A-Z]+, (.*)$', done.stderr, re.M)}
         summary = {what: int(number) for what, number in re.findall('^([a-z ]+): ([0-9]+)$', done.stderr, re.M)}
-        return Run([(int(number), text) for number, _, text in answers], reasons, summary)
+        return Run([(int(number), text) for number, _, text in answers], reasons, refusals, summary)
 
 
 @dataclass
@@ -126,14 +132,20 @@ def least_cut(trial):
     return until.length, False
 
 
+def counted(number, name):
+    return f'{number} {name}{"s" * (number != 1)}'
+
+
 class Report:
     """What is printed of a run, line by line, and whether all was as expected."""
 
-    def __init__(self, trial, items, go_on):
+    def __init__(self, trial, unreached, go_on):
         self.trial, self.expansion, self.go_on = trial, trial.expansion, go_on
+        # The lists with `until` whose condition never held: where they end, and their lines.
+        self.unreached = [(order, line) for at, (line, order) in enumerate(trial.expansion.closed) if at in unreached]
         self.entries, self.page = self.expansion.entries, self.expansion.header.page
         self.well, self.told, self.dead, self.late = True, 0, [], {}
-        self.phase, self.phase_begin, self.baseline = 'since the beginning', 0, {}
+        self.phase, self.phase_begin, self.baseline, self.moves = 'since the beginning', 0, {}, None
 
     # Texts.
 
@@ -168,8 +180,21 @@ class Report:
         text = re.sub(r'(?<=memory.max )([0-9]+)([KMGT]?)\b', size, re.sub(r'(?<=whose )([0-9]+)([KMGT]?)\b', size, text))
         text = re.sub(r'(?:at or below )(/\S*?)(,|$)', lambda match: f'at or below {self.true_path(match[1])}{match[2]}', text)
         text = text.replace(' of the only task', ', the only task').replace('the most of', 'the largest of')
-        text = text.replace('at or below /, where no frame is free and where nothing', 'on the machine, no frame is free and nothing')
+        text = text.replace('at or below /: no frame', 'on the machine: no frame')
         return text
+
+    def why(self, text):
+        """Why a line was refused, with the scenario's names."""
+        if not text:
+            return ''
+        def page(match):
+            of = self.trial.names.get(int(match[3]), match[3]) if match[2] == 'task' else f'file {match[3]}'
+            return f'the page at {self.number(int(match[1]) * self.page)} {self.unit()} of {of}'
+
+        text = re.sub(r'(?<=^the device failed: )page ([0-9]+) of (task|file) (\S+)', page, text)
+        text = re.sub('^task ([0-9]+)', lambda match: self.trial.names.get(int(match[1]), match[1]), text)
+        named = re.sub(r'(?<!\S)/[A-Za-z0-9._/-]*', lambda match: self.true_path(match[0]), text)
+        return f' ({named})'
 
     # The run.
 
@@ -187,32 +212,40 @@ class Report:
         run = self.trial.machine.run(lines)
         self.looks, self.answers = looks, run.by_line()
         real = [entry for entry in self.entries if not entry.note]
-        kills, own = {}, Run([(number, text) for number, text in run.answers if number in entry_at], run.reasons, run.summary)
+        kills, own = {}, Run([(number, text) for number, text in run.answers if number in entry_at], run.reasons, run.refusals, run.summary)
         for kill in self.trial.kills_of(own, entry_at.get, real):
             kills.setdefault(kill.entry.order, []).append(kill)
         expected = {entry.order: note for note in self.entries if note.note and note.note[0] == 'expect' and note.note[1][0] == 'refused'
                     for entry in note.note[1][2]}
-        refused = {}
-        for number, entry in entry_at.items():
-            for text in self.answers.get(number, []):
-                self.take_answer(entry, text, kills.get(entry.order, []), refused)
-        self.refused = refused
+        self.refused = refused = {}
+        numbers = {entry.order: number for number, entry in entry_at.items()}
         for (line, _, _), (text, pages) in self.expansion.rounded.items():
             print(f'line {line}: {text} is no whole page: taken as {pages}p')
         end = len(self.entries)
         for at, entry in enumerate(self.entries):
+            self.tell_unreached(entry.order)
+            for text in self.answers.get(numbers.get(entry.order), []):
+                self.take_answer(entry, text, kills.get(entry.order, []), refused)
             for kill in kills.get(entry.order, []):
                 self.tell_kill(kill)
             if entry.note:
                 self.tell_note(at, entry)
             elif entry.order in refused and not self.is_expected(refused[entry.order], expected.get(entry.order)):
-                print(f'{self.place(entry)}  {entry.words}: refused with {", ".join(refused[entry.order])}')
+                why = self.why(run.refusals.get(numbers[entry.order])) if len(refused[entry.order]) == 1 and not entry.words.startswith('raw ') else ''
+                print(f'{self.place(entry)}  {entry.words}: refused with {", ".join(refused[entry.order])}{why}')
                 self.well = False
                 if not self.go_on:
                     end = at + 1
                     break
+        else:
+            self.tell_unreached(math.inf)
         self.tell_end(end)
         return 0 if self.well else 1
+
+    def tell_unreached(self, order):
+        """Tells of the lists that ended before this place."""
+        while self.unreached and self.unreached[0][0] < order:
+            print(f'line {self.unreached.pop(0)[1]}: until is not reached')
 
     @staticmethod
     def looked_at(note):
@@ -240,11 +273,22 @@ class Report:
         if self.told > MOST_KILLS_TOLD:
             return
         names = [self.trial.names[task] for task in kill.victims]
-        text, _, group = kill.reason.partition('; ')
+        text, *more = re.sub(r'(?<=no frame is free) of [0-9]+ \([^)]*\)', '', kill.reason).split('; ')
+        group = re.search(r'; all [0-9]+ tasks of (/\S*) are killed', kill.reason)
         others = ''
-        if kill.group:
-            others = f', and with it all of {self.true_path(group.split(" is killed as one")[0])}: {", ".join(names[1:])}'
-        print(f'{self.place(kill.entry)}  {kill.entry.words}: {names[0]} is killed{others} ({self.reason(text)})')
+        if names[1:]:
+            others = f', and with it all of {self.true_path(group[1])}: {", ".join(names[1:])}'
+        ties = ''.join(self.ties(part) for part in more)
+        print(f'{self.place(kill.entry)}  {kill.entry.words}: {names[0]} is killed{others} ({self.reason(text)}{ties})')
+
+    def ties(self, text):
+        """Which other tasks were as large as the victim, if the text says so."""
+        found = re.fullmatch(r'tasks? ([0-9]+)(?:(,| and) ([0-9]+))?( and [0-9]+ more)? (is|are) equally large, and the lowest number is chosen (.*)', text)
+        if not found:
+            return ''
+        first, joint, second, more, verb, linux = found.groups('')
+        names = ' '.join(self.trial.names[int(task)] for task in (first, second) if task).replace(' ', f'{joint} ')
+        return f'; {names}{more} {verb} equally large, and the first in the scenario is chosen {linux}'
 
     def value(self, entry, path, file, key=None):
         """A number that a control file had at this place; None if the group isn't there."""
@@ -270,8 +314,20 @@ class Report:
         now, then = self.trial.counts(self.entries, at), self.trial.counts(self.entries, self.phase_begin)
         return {what: now[what] - then[what] for what in COUNTS}
 
+    def moved_by(self, at, path):
+        """What a group read in, wrote out and dropped in the phase, as it is shown. All that was moved must be what the machine counted."""
+        if self.moves is None:
+            self.moves = Moves(self.trial.machine, self.trial.header, [entry for entry in self.entries if not entry.note])
+        if self.moves.by_entry is None:
+            return [UNKNOWN] * len(COUNTS)
+        begin, end = (sum(not entry.note for entry in self.entries[:place]) for place in (self.phase_begin, at))
+        counts, whole = self.moves.count(begin, end, path), self.moves.count(begin, end)
+        if whole != self.counts_of_phase(at):
+            raise RuntimeError(f'all groups moved {whole}, and the machine {self.counts_of_phase(at)}')
+        return [self.number(counts[what] * self.page) for what in COUNTS]
+
     def tell_table(self, at, entry):
-        print(f'{self.place(entry):<26}{"current":>10}{"anon":>10}{"file":>10}{"refused":>9}{"killed":>7}')
+        print(f'{self.place(entry):<26}{"current":>10}{"anon":>10}{"file":>10}{"at max":>9}{"killed":>7}{"in":>10}{"out":>10}{"dropped":>10}')
         for true, path, made in entry.note[1]:
             current = self.value(entry, path, 'memory.current')
             if current is None:
@@ -279,7 +335,8 @@ class Report:
             numbers = [current] + [self.value(entry, path, 'memory.stat', key) for key in ('anon', 'file')]
             shown = [self.number(number // SCRIPT_PAGE * self.page) for number in numbers]
             refused, killed = (now - then for now, then in zip(self.local_counts(entry, path), self.baseline.get(made, (0, 0))))
-            print(f'{"  " + true:<26}{shown[0]:>10}{shown[1]:>10}{shown[2]:>10}{refused:>9}{killed:>7}')
+            moved = ''.join(f'{number:>10}' for number in self.moved_by(at, path))
+            print(f'{"  " + true:<26}{shown[0]:>10}{shown[1]:>10}{shown[2]:>10}{refused:>9}{killed:>7}{moved}')
         print(f'  {self.phase}: {self.moved(self.counts_of_phase(at))}')
 
     def tell_expectation(self, at, entry):
@@ -288,7 +345,8 @@ class Report:
         if kind == 'refused':
             words = [word for other in what[2] for word in self.refused.get(other.order, [])]
             if words and all(word == what[1] for word in words):
-                print(f'{self.place(what[2][0])}: refused with {what[1]}, as expected')
+                first = next(other for other in what[2] if other.order in self.refused)
+                print(f'{self.place(first)}: refused with {what[1]}, as expected')
                 return
             met, said = False, 'nothing was refused' if not words else 'refused with ' + ', '.join(words)
         elif kind == 'group':
@@ -309,7 +367,9 @@ class Report:
     def group_is(self, entry, path, key, operator, wanted):
         if key.startswith('events.'):
             number = self.value(entry, path, 'memory.events', key.removeprefix('events.'))
-            return number is not None and COMPARED[operator](number, wanted), str(number)
+            if number is None:
+                return False, 'the group is not there'
+            return COMPARED[operator](number, wanted), str(number)
         file, name = ('memory.current', None) if key == 'current' else ('memory.stat', key)
         number = self.value(entry, path, file, name)
         if number is None:
@@ -321,22 +381,22 @@ class Report:
         if self.told > MOST_KILLS_TOLD:
             print(f'{self.told - MOST_KILLS_TOLD} more kills')
         for task, count in sorted(self.late.items()):
-            print(f'{self.trial.names[task]}: {count:,} lines after its death')
+            print(f'{self.trial.names[task]}: {count:,} line{"s" * (count != 1)} after its death')
         header = self.expansion.header
         swap = f'{self.number(header.swap * self.page)} swap' if header.swap else 'no swap'
-        print(f'{self.number(header.frames * self.page)} {self.unit()} of memory, {swap}, {len(self.expansion.groups)} groups, '
-              f'{len(self.expansion.tasks)} tasks; {len(self.dead)} killed; {self.moved(self.trial.counts(self.entries, end))}')
+        print(f'{self.number(header.frames * self.page)} {self.unit()} of memory, {swap}, {counted(len(self.expansion.groups), "group")}, '
+              f'{counted(len(self.expansion.tasks), "task")}; {len(self.dead)} killed; {self.moved(self.trial.counts(self.entries, end))}')
 
 
 def run(items, settings, program, go_on):
     """Finds the lengths of all `until`, carries out the scenario, and gives the status."""
-    cuts = []
+    cuts, unreached = [], set()
     while True:
         expansion = Expansion(items, settings, cuts)
         trial = Trial(Machine(program, expansion.header.as_linux), expansion)
         if expansion.until is None:
-            return Report(trial, items, go_on).run()
+            return Report(trial, unreached, go_on).run()
         length, reached = least_cut(trial)
         if not reached:
-            print(f'line {expansion.until.line}: until is not reached')
+            unreached.add(len(cuts))
         cuts.append(length)

@@ -4,9 +4,11 @@ import re
 from dataclasses import dataclass, field, replace
 from fractions import Fraction
 
-UNITS = {'': 1, 'K': 1 << 10, 'M': 1 << 20, 'G': 1 << 30, 'T': 1 << 40}
+from fault_texts import SCRIPT_HINT, UNITS, expected, is_too_large, looks_like_script, not_a_size, size_parts
+
 U32, U64 = 1 << 32, 1 << 64
 
+NOT_A_PATH = 'not a path; write one like /a/b'
 HEADER = ('memory', 'swap', 'page', 'watermarks', 'file', 'fault', 'protection', 'placement')
 KEYS = ('max', 'min', 'low', 'oom.group')
 EVENTS = ('low', 'max', 'oom', 'oom_kill', 'oom_group_kill')
@@ -39,6 +41,8 @@ class Word:
     line: int = 0
     column: int = 1
     end: int = 1
+    # As it is written, before its names are filled.
+    written: str = ''
 
     @property
     def plain(self):
@@ -50,7 +54,8 @@ class Word:
         return [at for at, (c, quoted) in enumerate(zip(self.text, self.quoted)) if c in characters and quoted == ' ']
 
     def fault(self, text):
-        return Fault(self.line, self.column, f'{self.source}: {text}')
+        shown = self.source if self.written in ('', self.source) else f'{self.written} ({self.source})'
+        return Fault(self.line, self.column, f'{shown}: {text}')
 
 
 @dataclass
@@ -81,8 +86,8 @@ def read_words(text, number):
             at += 1
         source = text[begin:at]
         if inside:
-            raise Fault(number, begin + 1, f'{source}: a quote that is not closed')
-        words.append(Word(''.join(characters), ''.join(marks), '"' in source, source, number, begin + 1, at + 1))
+            raise Fault(number, begin + 1, 'a quote is not closed')
+        words.append(Word(''.join(characters), ''.join(marks), '"' in source, source, number, begin + 1, at + 1, source))
     return words
 
 
@@ -95,7 +100,7 @@ def read_lines(data):
         try:
             text = row.decode('utf-8')
         except UnicodeDecodeError as error:
-            raise Fault(number, len(row[:error.start].decode('utf-8')) + 1, 'not UTF-8') from None
+            raise Fault(number, len(row[:error.start].decode('utf-8')) + 1, 'the line is not UTF-8') from None
         if words := read_words(text, number):
             yield Line(number, words)
 
@@ -108,9 +113,9 @@ def read_scenario(data):
         first = line.words[0]
         if first.plain == 'end':
             if len(open_blocks) == 1:
-                raise first.fault('no block is open')
+                raise Fault(line.number, first.column, 'no block is open')
             if len(line.words) > 1:
-                raise line.words[1].fault('one word too many')
+                raise Fault(line.number, line.words[1].column, 'one word too many')
             open_blocks.pop()
         elif first.plain in ('repeat', 'together'):
             block = Block(line)
@@ -119,15 +124,25 @@ def read_scenario(data):
         else:
             open_blocks[-1].items.append(line)
     if len(open_blocks) > 1:
-        raise open_blocks[1].head.words[0].fault('a block without its end')
+        raise Fault(open_blocks[1].head.number, open_blocks[1].head.words[0].column, 'this block has no end')
     return top.items
+
+
+def told(fault, data):
+    """The line and the column of a fault of this scenario, and what is said of it."""
+    try:
+        lines = [(line.number, [word.source for word in line.words]) for line in read_lines(data)]
+        read_scenario(data)
+    except Fault:
+        return str(fault)
+    return str(fault) + (SCRIPT_HINT if lines and looks_like_script(lines, fault) else '')
 
 
 def fill(word, scopes):
     """The word, with each {NAME} replaced."""
     if word.has_quotes:
         if word.outside('{}'):
-            raise word.fault('a brace in a word with quotes')
+            raise word.fault('a brace that belongs to no {NAME}')
         return word
     parts = re.split(r'\{([^{}]*)\}', word.text)
     if len(parts) == 1 and '{' not in word.text and '}' not in word.text:
@@ -142,7 +157,7 @@ def fill(word, scopes):
         else:
             value = next((scope[part] for scope in reversed(scopes) if part in scope), None)
             if value is None:
-                raise word.fault(f'nothing is named {{{part}}} here')
+                raise word.fault('nothing has this name here')
         text, quoted, source, has_quotes = text + value.text, quoted + value.quoted, source + value.source, has_quotes or value.has_quotes
     return replace(word, text=text, quoted=quoted, source=source, has_quotes=has_quotes)
 
@@ -164,23 +179,23 @@ class Words:
         word = self.peek()
         return word.plain if word else None
 
-    def next(self, what):
+    def next(self):
         word = self.peek()
         if word is None:
             last = self.words[-1]
-            raise Fault(last.line, last.end, f'{what} is missing')
+            raise Fault(last.line, last.end, 'a word is missing')
         self.at += 1
         return word
 
-    def one_of(self, words, what=None):
-        word = self.next(what or ' or '.join(words))
+    def one_of(self, words, said=None):
+        word = self.next()
         if word.plain not in words:
-            raise word.fault('expected ' + (what or ' or '.join(words)))
+            raise word.fault(expected(word, said or ' or '.join(words), words))
         return word.plain
 
-    def rest(self, what):
+    def rest(self):
         """All words that are left, at least one."""
-        return [self.next(what)] + list(iter(self.next_or_none, None))
+        return [self.next()] + list(iter(self.next_or_none, None))
 
     def next_or_none(self):
         word = self.peek()
@@ -196,44 +211,39 @@ class Words:
 
 
 def number_of(word, low, high):
-    if not re.fullmatch('[0-9]+', word.plain or ''):
-        raise word.fault(f'expected a number from {low} to {high}')
     digits = word.text.lstrip('0') or '0'
-    if len(digits) > 20 or not low <= int(digits) <= high:
-        raise word.fault(f'out of {low} to {high}')
+    if not re.fullmatch('[0-9]+', word.plain or '') or len(digits) > 20 or not low <= int(digits) <= high:
+        raise word.fault('not a number, or out of its bounds')
     return int(digits)
 
 
 @functools.lru_cache(1024)
 def exact_size(text, page):
     """Bytes, exactly; None if the text is no size."""
-    match = re.fullmatch(r'([0-9]+)(?:(p)|(\.[0-9]{1,6})?([KMGT]?))', text)
-    if not match:
+    parts = size_parts(text)
+    if not parts or is_too_large(text):
         return None
-    digits, pages, part, unit = match.groups()
-    digits = digits.lstrip('0') or '0'
-    return Fraction((digits if len(digits) <= 30 else '9' * 30) + (part or '')) * (page if pages else UNITS[unit])
+    number, unit = parts
+    return Fraction(number) * (page if unit == 'p' else UNITS[unit])
 
 
-def size_of(word, text, page):
-    """The bytes of a size, which is the word or a part of it."""
+def size_of(word, text, page, is_part=False):
+    """The bytes of a size, which is the word or an end of a part."""
     size = None if word.has_quotes else exact_size(text, page)
     if size is None:
-        raise word.fault('expected a size, as 4096, 1.5G or 7p')
-    if size >= U64:
-        raise word.fault('a size of 2^64 bytes or more')
+        raise word.fault(not_a_size(word.text, is_part))
     return size
 
 
 def names_of(word):
     """The names of a path, from the root down."""
     if not word.text.startswith('/'):
-        raise word.fault('expected a path, which begins with /')
+        raise word.fault(NOT_A_PATH)
     if word.text == '/':
         return ()
     names = tuple(word.text[1:].split('/'))
     if any(name in ('', '.', '..') for name in names):
-        raise word.fault('a path has a name, which is neither . nor .., after each slash')
+        raise word.fault(NOT_A_PATH)
     return names
 
 
@@ -248,18 +258,18 @@ def name_and_index(word, ranges=True):
     if opened or closed:
         match = re.fullmatch(r'(\*)|([0-9]{1,10})(?:\.\.([0-9]{1,10}))?', text[opened[0] + 1:-1]) if opened else None
         if not match or len(opened) > 1 or closed != [len(text) - 1]:
-            raise word.fault('expected NAME, NAME[I], NAME[I..J] or NAME[*]')
+            raise word.fault('not a name')
         text = text[:opened[0]]
         every, first, last = match.groups()
         index = '*' if every else (int(first), int(last or first))
         if not ranges and (every or last):
-            raise word.fault('expected one task')
+            raise word.fault('not a name')
         if not every and index[0] > index[1]:
-            raise word.fault('the first number is above the last')
+            raise word.fault('not a name')
     if not text:
-        raise word.fault('a name has a character at least')
+        raise word.fault('not a name')
     if not word.has_quotes and text in LANGUAGE:
-        raise word.fault('a word of the language, and no name')
+        raise word.fault('not a name')
     return text, index
 
 
@@ -292,29 +302,29 @@ def check_raw(words):
     words = Words(words)
     begun = words.peek().text == 'begin'
     if begun:
-        words.next('')
-    word = words.next('a line of the script')
+        words.next()
+    word = words.next()
     if re.fullmatch('[0-9]+', word.text):
         number_in_raw(word, U32 - 1)
-        kinds = RAW_TASK_LINES.get(words.next('what the task does').text)
+        kinds = RAW_TASK_LINES.get(words.next().text)
         word = words.words[words.at - 1]
     else:
         kinds = (RAW_LINES if begun else RAW_LINES | RAW_PARTS).get(word.text)
     if kinds is None:
-        raise word.fault('no such line of a script')
+        raise word.fault('not a line of a script')
     for kind in kinds:
-        word = words.next('a word of the script')
+        word = words.next()
         if kind in 'nb':
             number_in_raw(word, 255 if kind == 'b' else U32 - 1)
         elif kind == 'a' and word.text not in ('shell', 'control', 'daemon'):
             number_in_raw(word, U32 - 1)
         elif kind == 'f' and not re.fullmatch(RAW_NAME, word.text) or kind == 'p' and not re.fullmatch(f'/|(?:/{RAW_NAME})+', word.text):
-            raise word.fault('no name of the script')
+            raise word.fault('not a line of a script')
         elif kind == 'w' and not re.fullmatch(r'[^ \t\n]+', word.text):
-            raise word.fault('no word of the script')
+            raise word.fault('not a line of a script')
     words.done()
 
 
 def number_in_raw(word, most):
     if not re.fullmatch('[0-9]+', word.text) or len(word.text.lstrip('0')) > 10 or int(word.text) > most:
-        raise word.fault(f'expected a number from 0 to {most}')
+        raise word.fault('not a line of a script')

@@ -1,6 +1,11 @@
-"""Compares the expansion with the tables and examples of the language of scenarios."""
-from expand_scenario import Expansion
-from scenario_text import Fault, drawn, read_scenario
+"""Compares the expansion with the tables and examples of the language of scenarios, and what is said of faults with crates/scenes/data."""
+import pathlib
+import re
+
+from expand_scenario import Expansion, setting
+from scenario_text import Fault, drawn, read_scenario, told
+
+SCENES = pathlib.Path(__file__).parent.parent.parent / 'crates' / 'scenes' / 'data' / 'scenes.txt'
 
 GROUP = 'group /a\ntask x in /a\n'
 FILE = 'file f 3p\n' + GROUP
@@ -96,6 +101,25 @@ def faults_at(text):
     return 'no fault'
 
 
+def fault_of(text, settings):
+    try:
+        Expansion(read_scenario(text.encode()), settings)
+    except Fault as fault:
+        return told(fault, text.encode())
+    return 'no fault'
+
+
+def faulty_scenes():
+    """The scenes that end with a fault: the scenario, the settings, and the line of the fault after the name of the file."""
+    for scene in re.split('(?m)^== ', SCENES.read_text(encoding='utf-8'))[1:]:
+        text, _, printed = scene.partition('\n')[2].partition('\n-- prints\n')
+        fault = re.match('scene:([0-9]+:[0-9]+: .*)', printed)
+        if fault:
+            lines = text.split('\n')
+            settings = [setting(line.removeprefix('-- set ')) for line in lines if line.startswith('-- set ')]
+            yield ''.join(f'{line}\n' for line in lines if not line.startswith('-- ')), settings, fault[1]
+
+
 def after_header(script):
     begin = next((at for at, line in enumerate(script) if at and line.startswith('#')), len(script))
     return '|'.join(line for line in script[begin:] if not line.startswith('#'))
@@ -108,6 +132,9 @@ def main():
     rows += [(f'{text} {cuts}', after_header(expanded(GROUP + text, cuts)), 'group /a|task 1 /a|' + wanted) for text, cuts, wanted in CUT]
     rows += [(f'seed {seed}', drawn(0, 1000, 4, seed), wanted) for seed, wanted in DRAWN.items()]
     rows += [(text, faults_at(text), wanted) for text, wanted in FAULTY]
+    scenes = list(faulty_scenes())
+    rows += [(text, fault_of(text, settings), wanted) for text, settings, wanted in scenes]
+    rows += [('scenes with a fault', len(scenes) > 40, True)]
     late = GROUP + 'x write until killed\nx write 1p'
     rows += [('a size after an until', faults_at(late), 'no fault')]
     wrong = [row for row in rows if row[1] != row[2]]
