@@ -1,9 +1,9 @@
 /* memcgrun, a simulator of the memory controller of Linux cgroup v2, as a library.
  *
- * A call takes a script of memory control groups and runs it over a new device. It gives the script's answers, its
- * chart, or the result of its check. A call keeps nothing, so several threads may call at the same time. Proved code
- * does the work (crates/memcgrun_c/src/lib.rt has the contracts). The calls below are C over it (library/memcgrun.c),
- * which is tested and not proved. docs/EMBED.md shows callers in C, Rust and Go. */
+ * A call takes a script or a scenario of memory control groups and runs it over a new device. It gives the answers, a
+ * chart, or the result of a check. A call keeps nothing, so several threads may call at the same time. Proved code does
+ * the work (crates/memcgrun_c/src/lib.rt has the contracts). The calls below are C over it (library/memcgrun.c), which
+ * is tested and not proved. docs/EMBED.md shows callers in C, Rust and Go. */
 #ifndef MEMCGRUN_H
 #define MEMCGRUN_H
 
@@ -24,10 +24,12 @@ const char *memcgrun_version(void);
 /* What a call answers. A later version may add more. */
 enum memcgrun_status {
     /* The script ran to its end. From memcgrun_check: it also answered what it expects. A command that got too little
-     * memory answers NoMemory in out. */
+     * memory answers NoMemory in out. From memcgrun_simulate: the scenario ran to its end, each of its expectations was
+     * met, and no line was refused unexpectedly. */
     MEMCGRUN_OK = 0,
-    /* Nothing ran: a line of the script is faulty, or the script is longer than 64 MiB. err names the first faulty line
-     * and its fault. */
+    /* Nothing ran: a line of the script or scenario is faulty, or it is longer than 64 MiB. err names the first faulty
+     * line and its fault. From memcgrun_simulate: the scenario may have run up to the line, if the fault is the size of a
+     * page that a list with until left open. */
     MEMCGRUN_BAD_SCRIPT = 1,
     /* There was too little memory. out has the beginning of the answers, or nothing. err may have the beginning of a
      * line that says what the memory was for. */
@@ -36,9 +38,11 @@ enum memcgrun_status {
      * err says which line it was, and why. */
     MEMCGRUN_REFUSED = 3,
     /* From memcgrun_check: the script ran, and its answers differ from those that it expects. out names the first
-     * difference. */
+     * difference. From memcgrun_simulate: the scenario ran, and a line was refused or an expectation was not met. out
+     * says which. */
     MEMCGRUN_DIFFERS = 4,
-    /* Nothing ran: the options are not valid, or the call does not take one of them. err says which. */
+    /* Nothing ran: the options are not valid, or the call does not take one of them, or they name nothing in the
+     * scenario. err says which. */
     MEMCGRUN_BAD_OPTIONS = 5
 };
 
@@ -61,7 +65,7 @@ struct memcgrun_options {
     bool strict;         /* end the run at the first line that is refused: MEMCGRUN_REFUSED (--strict) */
     bool as_linux;       /* place pages that are read in as Linux does, instead of by memcgrun's own rule (--as-linux) */
     bool explain;        /* say in err why each line was refused and each task killed, and more of a faulty line (--explain) */
-    bool quiet;          /* leave out the bytes that tasks read (--quiet) */
+    bool quiet;          /* leave out the bytes that tasks read, and the lines of killed tasks (--quiet) */
     bool summary;        /* say at the end of err how much was done (--summary) */
     uint8_t reserved[6]; /* 0 */
 };
@@ -99,6 +103,51 @@ enum memcgrun_status memcgrun_check(const uint8_t *script, size_t script_len, co
 /* Frees a text and leaves it empty, so that a second call does nothing. */
 void memcgrun_text_free(struct memcgrun_text *text);
 
+/* ---- Scenarios
+ *
+ * A scenario is a shorter form of a script, with sizes, names and loops. docs/SCENARIOS.md defines it. */
+
+/* What memcgrun_simulate prints. A later version may add more. */
+enum memcgrun_prints {
+    /* Who is killed, what is refused, tables and expectations, as lines for a reader. */
+    MEMCGRUN_REPORT = 0,
+    /* A picture of the run, SVG (--chart). */
+    MEMCGRUN_CHART = 1,
+    /* A row for each line of the scenario and each group, as comma-separated values (--csv). */
+    MEMCGRUN_CSV = 2,
+    /* An object for each row and each event, one a line (--json). */
+    MEMCGRUN_JSON = 3
+};
+
+/* What a caller may ask for. Every default is 0, and size says which version of this header the program was compiled
+ * with, as in struct memcgrun_options. */
+struct memcgrun_scenario_options {
+    size_t size;
+    const char *settings; /* texts NAME=WORD, one a line: WORD replaces that of each `let NAME` (--set); may be null */
+    const char *groups;   /* paths, one a line: rows are of these groups only (--groups); null means all; simulate */
+    const uint64_t *cuts; /* the lengths of the lists with until (--cuts); may be null if cuts_len is 0; expand */
+    size_t cuts_len;      /* how many lengths there are */
+    uint32_t prints;      /* an enum memcgrun_prints; simulate */
+    uint32_t every;       /* each row of this number is printed (--every); 0 means 1; simulate */
+    uint32_t depth;       /* rows are of groups at most this many levels below the root (--depth); 0: any; simulate */
+    bool go_on;           /* go on after a line that is refused (--go-on); simulate */
+    uint8_t reserved[11]; /* 0 */
+};
+
+#define MEMCGRUN_SCENARIO_OPTIONS_INIT \
+    {sizeof(struct memcgrun_scenario_options), NULL, NULL, NULL, 0, 0, 0, 0, false, {0, 0, 0, 0, 0, 0, 0, 0, 0, 0, 0}}
+
+/* Runs a scenario, as `memcgrun simulate` does. out gets what prints asks for. err gets a line if the status is neither
+ * MEMCGRUN_OK nor MEMCGRUN_DIFFERS: `scenario:LINE:COLUMN: TEXT` for a fault. Otherwise it is empty. A run may take
+ * long: each of up to 1,000,000 rounds of a loop is carried out. */
+enum memcgrun_status memcgrun_simulate(const uint8_t *scenario, size_t scenario_len, const struct memcgrun_scenario_options *options,
+                                       struct memcgrun_text *out, struct memcgrun_text *err);
+
+/* Prints the script of a scenario, as `memcgrun expand` does. Takes the options settings and cuts. Nothing is printed
+ * unless the status is MEMCGRUN_OK. */
+enum memcgrun_status memcgrun_expand(const uint8_t *scenario, size_t scenario_len, const struct memcgrun_scenario_options *options,
+                                     struct memcgrun_text *out, struct memcgrun_text *err);
+
 /* ---- The same calls into buffers of the caller */
 
 /* The numbers of bytes of both texts. A buffer may have taken only the first of these bytes. */
@@ -109,9 +158,9 @@ struct memcgrun_lengths {
 
 /* Each call writes into a buffer all bytes that it has room for. It changes nothing after them, and adds no 0. It sets
  * lengths to the full numbers of bytes. If a buffer is too short, call again with more room: the same script and
- * options give the same bytes.
+ * options give the same bytes, and so do the same scenario and options.
  *
- * The script and the buffers may be null if their lengths are 0. lengths must not be null, and no two of the memories
+ * The script, the scenario and the buffers may be null if their lengths are 0. lengths must not be null, and no two of the memories
  * may overlap: nothing checks that. */
 enum memcgrun_status memcgrun_schedule_into(const uint8_t *script, size_t script_len, const struct memcgrun_options *options,
                                             uint8_t *out, size_t out_len, uint8_t *err, size_t err_len,
@@ -122,6 +171,14 @@ enum memcgrun_status memcgrun_chart_into(const uint8_t *script, size_t script_le
 enum memcgrun_status memcgrun_check_into(const uint8_t *script, size_t script_len, const struct memcgrun_options *options,
                                          uint8_t *out, size_t out_len, uint8_t *err, size_t err_len,
                                          struct memcgrun_lengths *lengths);
+enum memcgrun_status memcgrun_simulate_into(const uint8_t *scenario, size_t scenario_len,
+                                            const struct memcgrun_scenario_options *options,
+                                            uint8_t *out, size_t out_len, uint8_t *err, size_t err_len,
+                                            struct memcgrun_lengths *lengths);
+enum memcgrun_status memcgrun_expand_into(const uint8_t *scenario, size_t scenario_len,
+                                          const struct memcgrun_scenario_options *options,
+                                          uint8_t *out, size_t out_len, uint8_t *err, size_t err_len,
+                                          struct memcgrun_lengths *lengths);
 
 #ifdef __cplusplus
 }

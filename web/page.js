@@ -1,129 +1,205 @@
-// The page: it takes a script, and shows its answers, its fault and its picture.
+// The page: it takes a scenario or a script, and shows its answers, its faults and its picture.
 'use strict';
-
-const part = (id) => document.getElementById(id);
 
 // The examples and the version, from another file of the page.
 const examples = typeof EXAMPLES === 'undefined' ? [] : EXAMPLES;
 if (typeof VERSION !== 'undefined') part('version').textContent = VERSION;
 
-// A link carries the script after its #.
-const linked = () => {
-  try {
-    return decodeURIComponent(location.hash.slice(1));
-  } catch {
-    return '';
-  }
+// A run that takes longer is shown to be under way, in milliseconds.
+const SOON = 200;
+
+const isChecked = (id) => part(id).checked;
+
+// For each kind of text: its name, its calls with their options, and what the page says after a run.
+const KINDS = {
+  scenario: {
+    name: 'Scenario',
+    answer: () => ['simulate', { goOn: isChecked('go_on') }],
+    draw: () => ['simulate', { goOn: isChecked('go_on'), prints: 'chart' }],
+    ended: { [Memcgrun.STATUS.OK]: 'as expected', [Memcgrun.STATUS.DIFFERS]: 'not as expected' },
+  },
+  script: {
+    name: 'Script',
+    answer: () => ['schedule', { labels: isChecked('labels'), explain: isChecked('explain'), strict: isChecked('strict'), asLinux: isChecked('as_linux') }],
+    draw: () => ['chart', { asLinux: isChecked('as_linux') }],
+    ended: { [Memcgrun.STATUS.OK]: 'ran to the end' },
+  },
 };
 
-// The line that a fault names, or 0. A fault begins with `line 7: ...`, or with `script:7: ...` if the run ended there.
-function lineOf(fault) {
-  const named = /^(?:line |script:)(\d+): /.exec(fault);
-  return named ? Number(named[1]) : 0;
-}
+// Makes calls in a worker, so that the page stays alive, one at a time. A call is stopped by ending its worker.
+class Machine {
+  #module;
+  #worker;
+  #stop = null;
 
-// Shows a line of the script.
-function showLine(line) {
-  if (!line) return;
-  const box = part('script');
-  const lines = box.value.split('\n');
-  const from = lines.slice(0, line - 1).reduce((sum, text) => sum + text.length + 1, 0);
-  box.focus();
-  box.setSelectionRange(from, from + (lines[line - 1] || '').length);
-  box.scrollTop = Math.max(0, (box.scrollHeight / lines.length) * (line - 4));
-}
-
-// The messages about lines, by the lines' numbers: what follows `script:7: `.
-function saidOf(err) {
-  const said = new Map();
-  for (const line of err.split('\n')) {
-    const told = /^script:(\d+): (.*)$/.exec(line);
-    if (told) said.set(told[1], [...(said.get(told[1]) || []), told[2]]);
+  constructor(module) {
+    this.#module = module;
+    this.#begin();
   }
-  return said;
-}
 
-// The reason why an answer's line was refused or a task was killed, from the messages about the line. The line's words
-// and the answer itself are left out.
-function reasonOf(said, [, number, words, answer]) {
-  const refusal = answer.split(' ').pop();
-  for (const text of said.get(number) || []) {
-    const rest = text.startsWith(`${words}: `) ? text.slice(words.length + 2) : text;
-    for (const start of [`${refusal}, `, `${answer}: `]) {
-      if (rest.startsWith(start)) return rest.slice(start.length);
-    }
+  #begin() {
+    this.#worker = new Worker('worker.js');
+    this.#worker.postMessage({ module: this.#module });
   }
-  return '';
+
+  // The answer of a call of Memcgrun, or null if it is stopped.
+  call(text, [call, options]) {
+    this.stop();
+    return new Promise((resolve, reject) => {
+      const end = (settle, value) => {
+        this.#stop = null;
+        settle(value);
+      };
+      const renew = (settle, value) => {
+        this.#worker.terminate();
+        this.#begin();
+        end(settle, value);
+      };
+      this.#stop = () => renew(resolve, null);
+      this.#worker.onmessage = ({ data }) => ('fault' in data ? end(reject, new Error(data.fault)) : end(resolve, data.answer));
+      this.#worker.onerror = ({ message }) => renew(reject, new Error(message || 'worker.js is missing beside this page'));
+      this.#worker.postMessage({ call, text, options });
+    });
+  }
+
+  stop() {
+    if (this.#stop) this.#stop();
+  }
 }
 
-// Shows the answers. Those that refuse a line are red, and below an answer is its reason, if there is one. Copied as a
-// text, they are only the answers.
-function showAnswers(out, err) {
-  const said = saidOf(err);
-  const lines = out.split('\n');
-  const shown = [];
-  let plain = '';
-  lines.forEach((line, at) => {
-    const text = at < lines.length - 1 ? `${line}\n` : line;
-    const labelled = said.size ? /^(\d+) (.*): (.*)$/.exec(line) : null;
-    const reason = labelled ? reasonOf(said, labelled) : '';
-    const isRefused = /(?:^|: )(?:error|\d+) [A-Z][A-Za-z]+$/.test(line);
-    if (!reason && !isRefused) {
-      plain += text;
-      return;
-    }
-    const mark = document.createElement('span');
-    mark.classList.toggle('refused', isRefused);
-    mark.textContent = text;
-    if (reason) mark.dataset.reason = reason;
-    shown.push(plain, mark);
-    plain = '';
-  });
-  part('out').replaceChildren(...shown, plain);
-}
+// One machine answers, and another draws at the same time.
+let machines = null;
+
+const kindNow = () => document.querySelector('[name=kind]:checked').value;
 
 // The module draws the picture. It is shown as an image, so that nothing in it can be run.
 function showChart(drawn) {
   const old = part('chart').firstChild;
   part('chart').replaceChildren();
   if (old) URL.revokeObjectURL(old.src);
-  if (drawn.status !== 0) return;
+  if (!drawn || !drawn.out.startsWith('<svg ')) return;
   const picture = new Image();
-  picture.alt = 'What each group is charged with behind each line of the script';
+  picture.alt = 'What each group is charged with after each line of the text';
   picture.src = URL.createObjectURL(new Blob([drawn.out], { type: 'image/svg+xml' }));
   part('chart').append(picture);
 }
 
-function run(machine) {
-  const script = part('script').value;
+function showAnswer(kind, { status, out, err }, took) {
+  const place = placeIn(err);
+  const ended = KINDS[kind].ended[status];
+  showAnswers(kind, out, err);
+  // If a run came to its end and its lines have numbers, explanations are below their lines.
+  showMessages(ended && isChecked('labels') ? '' : err);
+  part('said').textContent = `${ended || (place ? `stopped at line ${place.line}` : 'stopped')}, ${took.toFixed(1)} ms`;
+  if (!ended && place) goTo(place.line, place.column);
+}
+
+function showNothing(said, err) {
+  part('out').replaceChildren();
+  showMessages(err);
+  showChart(null);
+  part('said').textContent = said;
+}
+
+// The last run. A run that is no longer the last shows nothing.
+let last = null;
+
+async function runOnce(kind, text) {
+  const mine = {};
+  last = mine;
   const start = performance.now();
+  const took = () => performance.now() - start;
+  const soon = setTimeout(() => { part('said').textContent = 'running …'; }, SOON);
   try {
-    const asLinux = part('as_linux').checked;
-    const [labels, explain, strict] = ['labels', 'explain', 'strict'].map((option) => part(option).checked);
-    const { status, out, err } = machine.schedule(script, { labels, explain, strict, asLinux });
-    const took = performance.now() - start;
-    const line = lineOf(err);
-    showAnswers(out, err);
-    // If a run came to its end and its lines have numbers, explanations are below their lines.
-    part('err').textContent = status === 0 && labels ? '' : err;
-    part('said').textContent = `${status === 0 ? 'ran to the end' : line ? `stopped at line ${line}` : 'stopped'}, ${took.toFixed(1)} ms`;
-    showChart(machine.chart(script, { asLinux }));
-    if (status !== 0) showLine(line);
+    const drawn = machines.draw.call(text, KINDS[kind].draw()).catch(() => null);
+    const answer = await machines.answer.call(text, KINDS[kind].answer());
+    clearTimeout(soon);
+    if (last !== mine) return;
+    if (answer) showAnswer(kind, answer, took());
+    else showNothing(`stopped after ${(took() / 1000).toFixed(1)} s`, '');
+    const picture = await drawn;
+    if (last === mine) showChart(picture);
   } catch (fault) {
-    part('out').textContent = '';
-    part('err').textContent = `This script is more than the page can run: ${fault.message}`;
-    part('said').textContent = '';
-    part('chart').replaceChildren();
+    if (last === mine) showNothing('', `This text is more than the page can run: ${fault.message}`);
+  } finally {
+    clearTimeout(soon);
+    if (last === mine) setBusy(false);
   }
 }
 
-function choose(script, name) {
-  part('script').value = script;
-  part('example').value = name;
+function setBusy(isBusy) {
+  part('answers').setAttribute('aria-busy', isBusy);
+  part('stop').disabled = !isBusy;
+}
+
+function run() {
+  if (!machines) return;
+  setBusy(true);
+  runOnce(kindNow(), part('text').value);
+}
+
+function stop() {
+  for (const machine of Object.values(machines)) machine.stop();
+}
+
+// ---- texts
+
+// The text of each kind, while the other one is shown.
+const texts = {};
+
+const nameOf = ({ kind, name }) => `${kind}/${name}`;
+const exampleOf = (named) => examples.find((example) => nameOf(example) === named);
+
+function remember(kind) {
+  try {
+    localStorage.setItem('kind', kind);
+  } catch {
+    // A browser that keeps nothing begins with a scenario again.
+  }
+}
+
+function remembered() {
+  try {
+    return localStorage.getItem('kind') === 'script' ? 'script' : 'scenario';
+  } catch {
+    return 'scenario';
+  }
+}
+
+// The kind of the text that is shown.
+let kindShown = '';
+
+// Shows a text of a kind. `named` is the example that it is, if it is one.
+function choose(kind, text, named) {
+  if (kindShown) texts[kindShown] = [part('text').value, part('example').value];
+  kindShown = kind;
+  document.querySelector(`[name=kind][value=${kind}]`).checked = true;
+  part('name').textContent = KINDS[kind].name;
+  for (const options of document.querySelectorAll('[data-kind]')) options.hidden = options.dataset.kind !== kind;
+  setText(text);
+  part('example').value = named;
+}
+
+// Shows the text of this kind that was shown before, or an example.
+function change(kind) {
+  const first = exampleOf(`${kind}/pod`);
+  choose(kind, ...(texts[kind] || (first ? [first.text, nameOf(first)] : ['', ''])));
+}
+
+// ---- links
+
+// A link carries the text after its # and its kind. A link without a kind carries a script.
+function linked() {
+  const [, kind = 'script', text] = /^#(?:(scenario|script)=)?(.*)$/s.exec(location.hash) || [];
+  try {
+    return text ? { kind, text: decodeURIComponent(text) } : null;
+  } catch {
+    return null;
+  }
 }
 
 async function copyLink() {
-  location.hash = encodeURIComponent(part('script').value);
+  history.replaceState(null, '', `#${kindNow()}=${encodeURIComponent(part('text').value)}`);
   try {
     await navigator.clipboard.writeText(location.href);
     part('said').textContent = 'link copied';
@@ -132,6 +208,8 @@ async function copyLink() {
   }
 }
 
+// ---- the beginning
+
 // Gets the module, or says what is wrong and what to do.
 async function moduleOf() {
   if (location.protocol === 'file:') throw new Error('A browser loads the module only from a server. web/serve starts one.');
@@ -139,46 +217,70 @@ async function moduleOf() {
   if (!answer.ok) throw new Error(`The module memcgrun.wasm is missing beside this page (${answer.status} ${answer.statusText}). web/page makes the whole folder.`);
   const bytes = await answer.arrayBuffer();
   try {
-    return await Memcgrun.of(bytes);
+    return await WebAssembly.compile(bytes);
   } catch (fault) {
     throw new Error(`This browser can't run the module, which uses 64-bit memories of WebAssembly: ${fault.message}`);
   }
 }
 
-async function start() {
-  for (const { name, says } of examples) part('example').add(new Option(`${name}: ${says}`, name));
-  const named = (name) => examples.find((example) => example.name === name);
-  const first = linked();
-  if (first) choose(first, '');
-  else if (named('pod')) choose(named('pod').script, 'pod');
-  part('script').addEventListener('input', () => { part('example').value = ''; });
-  part('link').addEventListener('click', copyLink);
+function listExamples() {
+  for (const kind of Object.keys(KINDS)) {
+    const group = document.createElement('optgroup');
+    group.label = `${KINDS[kind].name}s`;
+    for (const example of examples.filter((each) => each.kind === kind)) group.append(new Option(`${example.name}: ${example.says}`, nameOf(example)));
+    part('example').append(group);
+  }
+}
 
-  let machine;
+function chooseFirst() {
+  const first = linked();
+  if (first) choose(first.kind, first.text, '');
+  else change(remembered());
+}
+
+function chooseExample() {
+  const example = exampleOf(part('example').value);
+  if (!example) return;
+  choose(example.kind, example.text, nameOf(example));
+  remember(example.kind);
+  history.replaceState(null, '', location.pathname + location.search);
+  run();
+}
+
+function listen() {
+  part('run').addEventListener('click', run);
+  part('stop').addEventListener('click', stop);
+  part('link').addEventListener('click', copyLink);
+  part('example').addEventListener('change', chooseExample);
+  part('text').addEventListener('input', () => { part('example').value = ''; });
+  part('text').addEventListener('keydown', (event) => { if (event.key === 'Enter' && (event.ctrlKey || event.metaKey)) run(); });
+  part('kinds').addEventListener('change', () => {
+    change(kindNow());
+    remember(kindNow());
+    run();
+  });
+  for (const option of document.querySelectorAll('[data-kind] input')) option.addEventListener('change', run);
+  addEventListener('hashchange', () => {
+    const given = linked();
+    if (!given) return;
+    choose(given.kind, given.text, '');
+    run();
+  });
+}
+
+async function start() {
+  listExamples();
+  chooseFirst();
+  listen();
   try {
-    machine = await moduleOf();
+    const module = await moduleOf();
+    machines = { answer: new Machine(module), draw: new Machine(module) };
   } catch (fault) {
-    part('said').textContent = 'not loaded';
-    part('err').textContent = fault.message;
+    showNothing('not loaded', fault.message);
     return;
   }
   part('run').disabled = false;
-  part('run').addEventListener('click', () => run(machine));
-  for (const option of ['labels', 'explain', 'strict', 'as_linux']) part(option).addEventListener('change', () => run(machine));
-  part('example').addEventListener('change', () => {
-    const example = named(part('example').value);
-    if (!example) return;
-    choose(example.script, example.name);
-    history.replaceState(null, '', location.pathname + location.search);
-    run(machine);
-  });
-  addEventListener('hashchange', () => {
-    const script = linked();
-    if (!script || script === part('script').value) return;
-    choose(script, '');
-    run(machine);
-  });
-  run(machine);
+  run();
 }
 
 start();

@@ -1,5 +1,6 @@
-/* ask CALL FILE: one call of the library. CALL is schedule, chart, table or check, followed by options, as in schedule,--strict,--labels.
- * What it gives goes to standard output and standard error, and its status is the exit status.
+/* ask CALL FILE: one call of the library. CALL is schedule, chart, table, check, simulate or expand, followed by options, as in
+ * schedule,--strict,--labels or simulate,--json,--set=a=1+b=2. What it gives goes to standard output and standard error, and its status is
+ * the exit status.
  *
  * ask threads FILE makes the call schedule on several threads at once, many times, and each has to give the same.
  *
@@ -50,12 +51,67 @@ static struct memcgrun_options options_of(const char *call)
     return options;
 }
 
+/* What is asked of a scenario, with the texts of its options. */
+struct scenario {
+    struct memcgrun_scenario_options options;
+    char settings[128], groups[128];
+    uint64_t cuts[8];
+};
+
+/* The texts of an option, each in a line: they are between the option and the next one, and + is between them. Null if it is not given. */
+static const char *lines_of(const char *call, const char *option, char *lines, size_t room)
+{
+    const char *from = strstr(call, option);
+    size_t len = from ? strcspn(from += strlen(option), ",") : 0;
+    if (!from)
+        return NULL;
+    if (len >= room)
+        exit(83);
+    for (size_t i = 0; i < len; i++)
+        lines[i] = from[i] == '+' ? '\n' : from[i];
+    lines[len] = 0;
+    return lines;
+}
+
+static uint32_t number_of(const char *call, const char *option)
+{
+    char digits[16];
+    return lines_of(call, option, digits, sizeof digits) ? (uint32_t)strtoul(digits, NULL, 10) : 0;
+}
+
+static void read_scenario(const char *call, struct scenario *it)
+{
+    char cuts[64], *number = cuts;
+    it->options = (struct memcgrun_scenario_options)MEMCGRUN_SCENARIO_OPTIONS_INIT;
+    it->options.settings = lines_of(call, ",--set=", it->settings, sizeof it->settings);
+    it->options.groups = lines_of(call, ",--groups=", it->groups, sizeof it->groups);
+    it->options.prints = has(call, ",--chart") ? MEMCGRUN_CHART : has(call, ",--csv") ? MEMCGRUN_CSV
+        : has(call, ",--json")                 ? MEMCGRUN_JSON  : MEMCGRUN_REPORT;
+    it->options.every = number_of(call, ",--every=");
+    it->options.depth = number_of(call, ",--depth=");
+    it->options.go_on = has(call, ",--go-on");
+    it->options.cuts = it->cuts;
+    if (!lines_of(call, ",--cuts=", cuts, sizeof cuts))
+        return;
+    while (*number) {
+        if (it->options.cuts_len == sizeof it->cuts / sizeof *it->cuts)
+            exit(84);
+        it->cuts[it->options.cuts_len++] = strtoul(number, &number, 10);
+        number += *number != 0;
+    }
+}
+
 /* The call, with texts that end in a 0. */
 static int ask(const char *call, const uint8_t *script, size_t len, struct memcgrun_text *out, struct memcgrun_text *err)
 {
     struct memcgrun_options options = options_of(call);
+    struct scenario scenario;
     bool table = begins(call, "table");
-    int status = begins(call, "check") ? memcgrun_check(script, len, &options, out, err)
+    int status;
+    read_scenario(call, &scenario);
+    status = begins(call, "simulate")    ? memcgrun_simulate(script, len, &scenario.options, out, err)
+        : begins(call, "expand")         ? memcgrun_expand(script, len, &scenario.options, out, err)
+        : begins(call, "check")          ? memcgrun_check(script, len, &options, out, err)
         : table || begins(call, "chart") ? memcgrun_chart(script, len, &options, table, out, err)
                                          : memcgrun_schedule(script, len, &options, out, err);
     if (out->bytes && (out->bytes[out->len] || err->bytes[err->len]))
@@ -99,14 +155,18 @@ static void front(const char *call, const uint8_t *script, size_t len, size_t ro
     enum { BEHIND = 8, MARK = 0xa5 };
     uint8_t *out = malloc(room + BEHIND), *err = malloc(room + BEHIND);
     struct memcgrun_options options = options_of(call);
+    struct scenario scenario;
     struct memcgrun_lengths lengths;
     size_t out_len, err_len;
     int status;
+    read_scenario(call, &scenario);
     if (!out || !err)
         exit(73);
     memset(out, MARK, room + BEHIND);
     memset(err, MARK, room + BEHIND);
-    status = memcgrun_schedule_into(script, len, &options, out, room, err, room, &lengths);
+    status = begins(call, "simulate") ? memcgrun_simulate_into(script, len, &scenario.options, out, room, err, room, &lengths)
+        : begins(call, "expand")      ? memcgrun_expand_into(script, len, &scenario.options, out, room, err, room, &lengths)
+                                      : memcgrun_schedule_into(script, len, &options, out, room, err, room, &lengths);
     out_len = lengths.out < room ? lengths.out : room;
     err_len = lengths.err < room ? lengths.err : room;
     for (size_t i = out_len; i < room + BEHIND; i++)

@@ -54,23 +54,26 @@ void *__wrap_realloc(void *p, size_t n)
 
 /* ---- calls */
 
-enum kind { SCHEDULE, PICTURE, TABLE, CHECKED };
+enum kind { SCHEDULE, PICTURE, TABLE, CHECKED, SIMULATED, EXPANDED };
 
 struct answer {
     enum memcgrun_status status;
     struct memcgrun_text out, err;
 };
 
-static struct answer bytes_ask(enum kind kind, const uint8_t *script, size_t len, const struct memcgrun_options *options)
+/* The options are those of the call. */
+static struct answer bytes_ask(enum kind kind, const uint8_t *script, size_t len, const void *options)
 {
     struct answer answer;
     answer.status = kind == SCHEDULE ? memcgrun_schedule(script, len, options, &answer.out, &answer.err)
         : kind == CHECKED            ? memcgrun_check(script, len, options, &answer.out, &answer.err)
+        : kind == SIMULATED          ? memcgrun_simulate(script, len, options, &answer.out, &answer.err)
+        : kind == EXPANDED           ? memcgrun_expand(script, len, options, &answer.out, &answer.err)
                                      : memcgrun_chart(script, len, options, kind == TABLE, &answer.out, &answer.err);
     return answer;
 }
 
-static struct answer ask(enum kind kind, const char *script, const struct memcgrun_options *options)
+static struct answer ask(enum kind kind, const char *script, const void *options)
 {
     return bytes_ask(kind, (const uint8_t *)script, strlen(script), options);
 }
@@ -96,7 +99,7 @@ static bool same(const struct answer *a, const struct answer *b)
     return a->status == b->status && is(&a->out, (const char *)b->out.bytes) && is(&a->err, (const char *)b->err.bytes);
 }
 
-static void expect_at(int line, enum kind kind, const char *script, const struct memcgrun_options *options,
+static void expect_at(int line, enum kind kind, const char *script, const void *options,
                       enum memcgrun_status status, const char *out, const char *err)
 {
     struct answer answer = ask(kind, script, options);
@@ -124,7 +127,7 @@ static void check_asked(void)
     EXPECT(SCHEDULE, reads, &zeroed, MEMCGRUN_OK, "1 7\n4096\nerror ENOENT\nerror ENOENT\n", "");
     EXPECT(SCHEDULE, "", NULL, MEMCGRUN_OK, "", "");
     options.labels = options.strict = true;
-    EXPECT(SCHEDULE, reads, &options, MEMCGRUN_REFUSED, "4 1 read 0 0: 1 7\n5 cat /a memory.current: 4096\n6 rmdir /b: error ENOENT\n", no_group_b);
+    EXPECT(SCHEDULE, reads, &options, MEMCGRUN_REFUSED, "4: 1 read 0 0: 1 7\n5: cat /a memory.current: 4096\n6: rmdir /b: error ENOENT\n", no_group_b);
     options = usual;
     options.quiet = options.explain = true;
     EXPECT(SCHEDULE, reads, &options, MEMCGRUN_OK, "4096\nerror ENOENT\nerror ENOENT\n",
@@ -179,7 +182,7 @@ static void check_statuses(void)
     if (!script)
         exit(70);
     memset(script, '#', longest + 1);
-    for (enum kind kind = SCHEDULE; kind <= CHECKED; kind++) {
+    for (enum kind kind = SCHEDULE; kind <= EXPANDED; kind++) {
         answer = bytes_ask(kind, script, longest + 1, NULL);
         CHECK(answer.status == MEMCGRUN_BAD_SCRIPT && answer.out.len == 0);
         CHECK(is(&answer.err, kind == CHECKED ? "script: the script has more than 64 MiB\n" : "the script has more than 64 MiB\n"));
@@ -228,7 +231,7 @@ static void check_versions(void)
     }
     memset(&given, 0xff, sizeof given);
     given.options = (struct memcgrun_options){.size = offsetof(struct memcgrun_options, strict), .turns = 1000, .labels = true, .strict = true};
-    EXPECT(SCHEDULE, "rmdir /\nrmdir /\n", &given.options, MEMCGRUN_OK, "1 rmdir /: error EBUSY\n2 rmdir /: error EBUSY\n", "");
+    EXPECT(SCHEDULE, "rmdir /\nrmdir /\n", &given.options, MEMCGRUN_OK, "1: rmdir /: error EBUSY\n2: rmdir /: error EBUSY\n", "");
     /* Newer: what it has beside is 0, or it is refused. */
     for (size_t size = sizeof usual; size <= 4097; size += size < 40 ? 1 : 4057) {
         memset(&given, 0, sizeof given);
@@ -286,6 +289,120 @@ static void check_taken(void)
     EXPECT(TABLE, faulty, &given.options, MEMCGRUN_BAD_SCRIPT, "", "line 2: missing argument\n");
 }
 
+/* ---- scenarios */
+
+static const char grows[] = "memory 64p\nlet size 2p\ngroup /a max 3p\ntask x in /a\nx write {size}\nexpect /a current 2p\n";
+static const char met[] = "line 6  expect /a current 2p: as expected\n256 KiB of memory, no swap, 1 group, 1 task; 0 killed; 0 KiB read in, 0 written out, 0 dropped\n";
+static const char unmet[] = "line 6  expect /a current 2p: NOT MET, 12 KiB\n256 KiB of memory, no swap, 1 group, 1 task; 0 killed; 0 KiB read in, 0 written out, 0 dropped\n";
+static const char unrefused[] = "256 KiB of memory, no swap, 1 group, 1 task; 0 killed; 0 KiB read in, 0 written out, 0 dropped\n";
+static const char grown[] = "# page 4K; with --as-linux\nframes 64\nswap 0\ntrace 1048576\nrecursiveprot\n# 3\ngroup /a\nset /a memory.max 12288\n# 4\ntask 1 /a\n"
+                            "# 5\n1 write 0 0 1\n1 write 1 0 1\n# 6: expect /a current 2p\n";
+
+static void check_scenarios(void)
+{
+    struct memcgrun_scenario_options usual = MEMCGRUN_SCENARIO_OPTIONS_INIT, options = usual, zeroed = {.size = sizeof zeroed};
+    static const char refused[] = "memory 64p\ngroup /a\ntask x in /a\nx exit\nx read 0..1p\n";
+    static const uint64_t cuts[] = {1, 1};
+    char out[512];
+    EXPECT(SIMULATED, grows, NULL, MEMCGRUN_OK, met, "");
+    EXPECT(SIMULATED, grows, &usual, MEMCGRUN_OK, met, "");
+    EXPECT(SIMULATED, grows, &zeroed, MEMCGRUN_OK, met, "");
+    EXPECT(EXPANDED, grows, NULL, MEMCGRUN_OK, grown, "");
+    snprintf(out, sizeof out, "line 5  x read 0..1p: refused with ESRCH (x was never started, or has exited)\n%s", unrefused);
+    EXPECT(SIMULATED, refused, NULL, MEMCGRUN_DIFFERS, out, "");
+    options.go_on = true;
+    EXPECT(SIMULATED, refused, &options, MEMCGRUN_DIFFERS, out, "");
+    options = usual;
+    options.settings = "size=2p\n\nsize=3p\n";
+    EXPECT(SIMULATED, grows, &options, MEMCGRUN_DIFFERS, unmet, "");
+    options.settings = "size=4p";
+    EXPECT(EXPANDED, "let size 2p\ngroup /a\ntask x in /a\nx write {sise}\n", &options, MEMCGRUN_BAD_SCRIPT, "",
+           "scenario:4:9: {sise}: nothing has this name here\n");
+    EXPECT(SIMULATED, "group /a\ngroup /a\n", NULL, MEMCGRUN_BAD_SCRIPT, "", "scenario:2:7: /a: the group is already there\n");
+    options.settings = "sise=3p";
+    EXPECT(SIMULATED, grows, &options, MEMCGRUN_BAD_OPTIONS, "", "scenario: --set sise: no let has this name\n");
+    EXPECT(EXPANDED, grows, &options, MEMCGRUN_BAD_OPTIONS, "", "scenario: --set sise: no let has this name\n");
+    options.settings = "size=3p\nsize";
+    EXPECT(SIMULATED, grows, &options, MEMCGRUN_BAD_OPTIONS, "", "options: settings: text 2 is not NAME=WORD\n");
+    options.settings = "size=\xff";
+    EXPECT(EXPANDED, grows, &options, MEMCGRUN_BAD_OPTIONS, "", "options: settings is not UTF-8\n");
+    options.settings = "";
+    options.groups = "/\xff";
+    EXPECT(SIMULATED, grows, &options, MEMCGRUN_BAD_OPTIONS, "", "options: groups is not UTF-8\n");
+    options.groups = "/a\n/b";
+    options.prints = MEMCGRUN_CSV;
+    EXPECT(SIMULATED, grows, &options, MEMCGRUN_BAD_OPTIONS, "", "scenario: --groups /b: no group has this path\n");
+    options = usual;
+    options.cuts = cuts;
+    options.cuts_len = 2;
+    EXPECT(EXPANDED, grows, &options, MEMCGRUN_BAD_OPTIONS, "", "scenario: --cuts: 2 more lengths than the scenario has lists with until\n");
+    EXPECT(EXPANDED, "group /a\ntask x in /a\nx write until killed\nx write until killed\n", &options, MEMCGRUN_OK,
+           "# page 4K; with --as-linux\nframes 65536\nswap 0\ntrace 1048576\nrecursiveprot\n# 1\ngroup /a\n# 2\ntask 1 /a\n# 3\n1 write 0 0 1\n"
+           "# 4\n1 write 1 0 1\n", "");
+}
+
+/* Options of a scenario of a program that was compiled with another version of the header. */
+union scenario_versioned {
+    struct memcgrun_scenario_options options;
+    uint8_t bytes[8192];
+};
+
+static void check_scenario_versions(void)
+{
+    static const char not_a_size[] = "options: size is not sizeof(struct memcgrun_scenario_options)\n";
+    static const char newer[] = "options: a member is set that version " MEMCGRUN_VERSION " does not have\n";
+    static const size_t least = offsetof(struct memcgrun_scenario_options, reserved);
+    static union scenario_versioned given;
+    struct memcgrun_scenario_options usual = MEMCGRUN_SCENARIO_OPTIONS_INIT;
+    for (size_t size = 0; size <= 4097; size += size < 80 ? 1 : 4017) {
+        memset(&given, 0, sizeof given);
+        given.options = usual;
+        given.options.size = size;
+        if (size < least || size > 4096)
+            EXPECT(SIMULATED, grows, &given, MEMCGRUN_BAD_OPTIONS, "", not_a_size);
+        else
+            EXPECT(SIMULATED, grows, &given, MEMCGRUN_OK, met, "");
+        given.bytes[size] = size >= least;
+        if (size >= least && size <= 4096)
+            EXPECT(EXPANDED, grows, &given, MEMCGRUN_OK, grown, "");
+    }
+    for (size_t at = least; at < sizeof usual; at++) {
+        memset(&given, 0, sizeof given);
+        given.options = usual;
+        given.bytes[at] = 1;
+        EXPECT(EXPANDED, grows, &given, MEMCGRUN_BAD_OPTIONS, "", newer);
+    }
+    given.options = usual;
+    given.bytes[offsetof(struct memcgrun_scenario_options, go_on)] = 2;
+    EXPECT(SIMULATED, grows, &given, MEMCGRUN_BAD_OPTIONS, "", "options: go_on is neither 0 nor 1\n");
+}
+
+static void check_scenario_taken(void)
+{
+    struct memcgrun_scenario_options usual = MEMCGRUN_SCENARIO_OPTIONS_INIT, options = usual;
+    static const uint64_t cuts[] = {1};
+    options.prints = 4;
+    EXPECT(SIMULATED, grows, &options, MEMCGRUN_BAD_OPTIONS, "", "options: prints is not an enum memcgrun_prints\n");
+    options.prints = MEMCGRUN_JSON;
+    EXPECT(EXPANDED, grows, &options, MEMCGRUN_BAD_OPTIONS, "", "options: expand does not take prints\n");
+    options = usual;
+    options.groups = "/a";
+    EXPECT(EXPANDED, grows, &options, MEMCGRUN_BAD_OPTIONS, "", "options: expand does not take groups\n");
+    options = usual;
+    options.every = 1;
+    EXPECT(EXPANDED, grows, &options, MEMCGRUN_BAD_OPTIONS, "", "options: expand does not take every\n");
+    options = usual;
+    options.depth = 1;
+    EXPECT(EXPANDED, grows, &options, MEMCGRUN_BAD_OPTIONS, "", "options: expand does not take depth\n");
+    options = usual;
+    options.go_on = true;
+    EXPECT(EXPANDED, grows, &options, MEMCGRUN_BAD_OPTIONS, "", "options: expand does not take go_on\n");
+    options = usual;
+    options.cuts = cuts;
+    options.cuts_len = 1;
+    EXPECT(SIMULATED, grows, &options, MEMCGRUN_BAD_OPTIONS, "", "options: simulate does not take cuts\n");
+}
+
 /* ---- buffers */
 
 static void check_buffers(void)
@@ -302,6 +419,14 @@ static void check_buffers(void)
     CHECK(memcgrun_check_into(script, strlen(reads), NULL, out, 4, err, 4, &lengths) == MEMCGRUN_DIFFERS && !memcmp(out, "scri", 4));
     CHECK(memcgrun_schedule_into(script, strlen(reads), &bad, out, 4, err, 3, &lengths) == MEMCGRUN_BAD_OPTIONS);
     CHECK(!lengths.out && lengths.err == 53 && !memcmp(out, "scri", 4) && !memcmp(err, "opt.", 4));
+    script = (const uint8_t *)grows;
+    CHECK(memcgrun_simulate_into(NULL, 0, NULL, NULL, 0, NULL, 0, &lengths) == MEMCGRUN_OK && lengths.out && !lengths.err);
+    CHECK(memcgrun_simulate_into(script, strlen(grows), NULL, out, 3, err, 4, &lengths) == MEMCGRUN_OK && lengths.out == strlen(met));
+    CHECK(!memcmp(out, "lini", 4) && !memcmp(err, "opt.", 4));
+    CHECK(memcgrun_expand_into(script, strlen(grows), NULL, out, 4, err, 4, &lengths) == MEMCGRUN_OK && lengths.out == strlen(grown));
+    CHECK(!memcmp(out, "# pa", 4) && !memcmp(err, "opt.", 4));
+    CHECK(memcgrun_expand_into(script, strlen(grows) - 4, NULL, out, 4, err, 2, &lengths) == MEMCGRUN_BAD_SCRIPT && !lengths.out);
+    CHECK(!memcmp(out, "# pa", 4) && !memcmp(err, "sct.", 4));
 }
 
 /* ---- each allocation fails in turn */
@@ -316,18 +441,20 @@ static bool is_right(enum kind kind, const struct answer *answer, const struct a
 {
     if (kind == SCHEDULE && has(&answer->out, "NoMemory"))
         return answer->status == MEMCGRUN_OK || answer->status == MEMCGRUN_NO_MEMORY || has(&answer->err, ": NoMemory, ");
+    if (kind == SIMULATED && has(&answer->out, "refused with NoMemory"))
+        return answer->status == MEMCGRUN_DIFFERS || answer->status == MEMCGRUN_NO_MEMORY;
     if (answer->status == MEMCGRUN_NO_MEMORY)
-        return kind == SCHEDULE ? begins(&answer->out, &whole->out) : !answer->out.len;
+        return kind == SCHEDULE || kind == SIMULATED ? begins(&answer->out, &whole->out) : !answer->out.len;
     /* A fault's own line is there, even if memory lacks to explain it. */
     if (whole->status == MEMCGRUN_BAD_SCRIPT && answer->status == whole->status && is(&answer->err, "line 3: missing argument\n"))
         return !answer->out.len;
     /* No answer is shown that would say whether a command got no memory. */
-    if (kind != SCHEDULE && whole->status != MEMCGRUN_BAD_SCRIPT)
+    if ((kind == PICTURE || kind == TABLE || kind == CHECKED) && whole->status != MEMCGRUN_BAD_SCRIPT)
         return answer->status == whole->status;
     return same(answer, whole);
 }
 
-static void check_failing(enum kind kind, const char *script, const struct memcgrun_options *options)
+static void check_failing(enum kind kind, const char *script, const void *options)
 {
     struct answer whole = ask(kind, script, options);
     CHECK(whole.status != MEMCGRUN_NO_MEMORY);
@@ -356,7 +483,9 @@ static void check_memory(void)
     static const char small[] = "frames 4\nswap 4\ntrace 64\ngroup /a\nset /a memory.max 8K\ntask 1 /a\n1 write 0 0 1\n1 write 1 0 2\n1 write 2 0 3\n"
                                 "1 read 0 0\nrmdir /b\n2 read 0 0\nrmdir /c\n";
     static const char bad[] = "frames 4\ngroup /a\nset /a memory.max\n";
+    static const char short_scenario[] = "memory 8p\nlet size 2p\ngroup /a max 3p\ntask x in /a\nx write {size}\nshow\nexpect killed x\n";
     struct memcgrun_options options = MEMCGRUN_OPTIONS_INIT;
+    struct memcgrun_scenario_options set = MEMCGRUN_SCENARIO_OPTIONS_INIT;
     check_failing(SCHEDULE, small, NULL);
     check_failing(SCHEDULE, bad, NULL);
     check_failing(TABLE, small, NULL);
@@ -368,6 +497,10 @@ static void check_memory(void)
     check_failing(SCHEDULE, bad, &options);
     options.labels = options.strict = true;
     check_failing(SCHEDULE, small, &options);
+    set.settings = "size=4p";
+    check_failing(SIMULATED, short_scenario, &set);
+    check_failing(SIMULATED, "group /a\ngroup /a\n", NULL);
+    check_failing(EXPANDED, short_scenario, &set);
 }
 
 int main(void)
@@ -377,6 +510,9 @@ int main(void)
     check_statuses();
     check_versions();
     check_taken();
+    check_scenarios();
+    check_scenario_versions();
+    check_scenario_taken();
     check_buffers();
     check_memory();
     return failed;
