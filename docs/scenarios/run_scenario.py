@@ -188,7 +188,7 @@ class Report:
         if not text:
             return ''
         def page(match):
-            of = self.trial.names.get(int(match[3]), match[3]) if match[2] == 'task' else f'file {match[3]}'
+            of = self.trial.names.get(int(match[3]), match[3]) if match[2] == 'task' else f'file {self.true_path(match[3])}'
             return f'the page at {self.number(int(match[1]) * self.page)} {self.unit()} of {of}'
 
         text = re.sub(r'(?<=^the device failed: )page ([0-9]+) of (task|file) (\S+)', page, text)
