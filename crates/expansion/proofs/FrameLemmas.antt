@@ -1,6 +1,6 @@
 -- Words of a head.
-use Rattle.std.proofs.Common.{◌≡◌, ℕ, zero, suc, ◌+◌, ◌<◌, Bool, true, false, List, [], ◌∷◌, length, drop, codes, Some, refl, ◌∙◌, arith}
-use Rattle.scenario_words.specs.Words.{FilledWord, is_word, is_at}
+use Rattle.std.proofs.Common.{◌≡◌, ℕ, zero, suc, ◌+◌, ◌<◌, true, false, List, [], ◌∷◌, length, drop, codes, Some, refl, arith}
+use Rattle.scenario_words.specs.Words.{FilledWord, is_at}
 use Rattle.expansion.specs.Frames.{until_among}
 
 pub until_here : (ws : List FilledWord) (k place : ℕ) → k < length ws → is_at ws k (codes "until") ≡ true → until_among (drop k ws) place ≡ Some place

@@ -1,6 +1,11 @@
+mod AheadLemmas
 mod FrameLemmas
+mod ItemLemmas
+mod LineLemmas
 mod MergeLemmas
+mod OpenLemmas
 mod StandingLemmas
 mod StepLemmas
+mod StillLemmas
 mod TogetherLemmas
 mod WalkLemmas

@@ -1,11 +1,10 @@
 -- Marks and places after entries.
-use Rattle.std.proofs.Common.{◌≡◌, ℕ, zero, suc, ◌+◌, ◌-◌, ◌≤◌, List, min, refl, sym, ap, ◌∙◌, arith}
+use Rattle.std.proofs.Common.{◌≡◌, ℕ, zero, suc, ◌+◌, ◌-◌, ◌≤◌, List, refl, ap, ◌∙◌, arith}
 use Rattle.scenario_lines.specs.Access.{AccessNow}
 use Rattle.scenario_lines.specs.declared.burst.Deed.{Deed}
 use Rattle.scenario_lines.specs.declared.burst.Deed.TheVariants as deed
-use Rattle.scenario_lines.specs.Acts.{entry_count}
 use Rattle.scenario_lines.specs.Tasks.{StandingNow, TasksNow}
-use Rattle.expansion.specs.Standings.{after_access, after_entry, after_entries, after_first, after_rest, standing}
+use Rattle.expansion.specs.Standings.{after_access, after_entry, after_entries, standing}
 
 pub more_entries : (a : AccessNow) (from place : ℕ) (t0 t next : TasksNow) → from ≤ place → t ≡ standing t0 (after_entries (deed.Access a) from (place - from) t0.standings)
     → next ≡ standing t (after_access a place t.standings) → next ≡ standing t0 (after_entries (deed.Access a) from (place + 1 - from) t0.standings)

@@ -1,6 +1,5 @@
 -- Steps of an expansion.
-use Rattle.std.proofs.Common.{◌≡◌, ℕ, zero, suc, ◌-◌, ◌<◌, ◌≤◌, Bool, true, false, cond, nat_lt, List, [], ◌∷◌, ◌++◌, length, slice_get, Option, Some, None, Vec, refl, sym, ap, ◌∙◌, append_assoc, arith}
-use Rattle.std.specs.Global.{Global}
+use Rattle.std.proofs.Common.{◌≡◌, ℕ, ◌-◌, ◌<◌, ◌≤◌, Bool, true, false, nat_lt, List, [], ◌∷◌, ◌++◌, length, slice_get, Option, Some, None, refl, sym, ap, ◌∙◌, arith}
 use Rattle.std.specs.Option.{option_map, unwrap_or}
 use Rattle.std.proofs.lemmas.Bool.Decides.{nat_tests}
 use Rattle.std.proofs.lemmas.Bool.{ltb-true}
@@ -8,9 +7,8 @@ use Rattle.scenario_lines.specs.declared.burst.Burst.{Burst}
 use Rattle.scenario_lines.specs.declared.burst.Deed.{Deed}
 use Rattle.scenario_lines.specs.declared.burst.Deed.TheVariants as deed
 use Rattle.scenario_lines.specs.Acts.{entry_count}
-use Rattle.scenario_lines.specs.Scene.{SceneNow}
 use Rattle.expansion.specs.declared.expansion.Expansion.{Expansion}
-use Rattle.expansion.specs.Merge.{IsNext, has_next, member_at, next_among}
+use Rattle.expansion.specs.Merge.{IsNext, next_among}
 use Rattle.expansion.specs.Together.{PlacedNow, MemberNow, entries, total, entry_in, cursors_of, has_left, member_or, next_entry, next_of}
 use Rattle.expansion.specs.Walk.{Told, Gathered, item_count, lists_gathered, stands}
 use Rattle.expansion.specs.Standings.{after_entry, after_rest}

@@ -1,18 +1,16 @@
 -- Members of a `together`: their lists, and how much of them was taken.
-use Rattle.std.proofs.Common.{◌≡◌, ℕ, zero, suc, ◌+◌, ◌-◌, ◌^◌, ◌<◌, ◌≤◌, Bool, true, false, cond, nat_lt, List, [], ◌∷◌, ◌++◌, length, map, min, slice_get, get_or, set, drop, Option, Some, None, refl, sym, ap, subst, ◌∙◌, zero-add, add-one, arith}
-use Rattle.std.specs.Prelude.{if◌then◌else◌}
-use Rattle.std.specs.Option.{option_map, option_and_then, is_some, option_copied}
-use Rattle.std.proofs.lemmas.Option.{slice_get-get_or, slice_get_within}
+use Rattle.std.proofs.Common.{◌≡◌, ℕ, zero, suc, ◌+◌, ◌-◌, ◌^◌, ◌<◌, ◌≤◌, true, false, nat_lt, List, [], ◌∷◌, ◌++◌, length, min, slice_get, get_or, set, drop, Some, None, refl, sym, ap, subst, ◌∙◌, zero-add, add-one, arith}
+use Rattle.std.specs.Option.{option_map}
 use Rattle.std.proofs.lemmas.List.{drop_more, drop_all}
 use Rattle.std.proofs.lemmas.Bool.{ltb-true, lt-ltb}
-use borrow.Author.Tests.{ltb-false, le-ltb}
+use borrow.Author.Tests.{le-ltb}
 use Rattle.scenario_lines.specs.declared.burst.Deed.{Deed}
 use Rattle.scenario_lines.specs.Acts.{entry_count}
 use Rattle.scenario_lines.specs.Tasks.{StartedTask, StandingNow, TasksNow}
 use Rattle.expansion.specs.declared.merge.Cursor.{Cursor}
 use Rattle.expansion.specs.Merge.{has_next, member_at}
 use Rattle.expansion.specs.Standings.{after_entries, after_first, standing}
-use Rattle.expansion.specs.Together.{PlacedNow, MemberNow, entries, total, total_before, IsIn, NoneEmpty, entry_in, cursor_of, cursors_of, new_member, with_list, added, counted, one_taken, taken_once, member_or, has_left, taken_of, taken_if_left, with_place, left_of, after_lists, after_member, after_members}
+use Rattle.expansion.specs.Together.{PlacedNow, MemberNow, entries, total, total_before, IsIn, NoneEmpty, entry_in, cursor_of, cursors_of, with_list, added, counted, one_taken, taken_once, member_or, has_left, taken_of, taken_if_left, with_place, left_of, after_lists, after_members}
 
 -- ---- entries of lists
 

@@ -1,5 +1,5 @@
 -- What comes, put together: laws of what follows one another.
-use Rattle.std.proofs.Common.{◌≡◌, ℕ, zero, suc, ◌+◌, ◌-◌, ◌<◌, ◌≤◌, Bool, true, false, cond, nat_lt, List, [], ◌∷◌, ◌++◌, length, min, take, drop, slice_get, Option, Some, None, Result, Ok, Err, refl, sym, ap, subst, ◌∙◌, append-nil, append_assoc, length-take, length-drop, zero-add, add-one, arith}
+use Rattle.std.proofs.Common.{◌≡◌, ℕ, zero, suc, ◌+◌, ◌-◌, ◌<◌, ◌≤◌, Bool, true, false, nat_lt, List, [], ◌∷◌, ◌++◌, length, min, take, drop, slice_get, Option, Some, None, Result, Ok, Err, refl, sym, ap, ◌∙◌, append-nil, append_assoc, length-take, length-drop, arith}
 use Rattle.std.specs.Prelude.{slice_range, if◌then◌else◌}
 use Rattle.std.proofs.lemmas.List.{take_all, drop_all, take-take, drop-drop, drop-take}
 use Rattle.std.proofs.lemmas.Bool.Decides.{nat_tests}
@@ -7,7 +7,7 @@ use Rattle.scenarios.specs.Lines.{TextLine, opens_block}
 use Rattle.scenario_words.specs.declared.fault.Fault.{Fault}
 use Rattle.scenario_words.specs.Faults.{◌>>=◌}
 use Rattle.scenario_lines.specs.Scene.{SceneNow}
-use Rattle.expansion.specs.Walk.{Told, Out, Ending, Ended, Failed, Unsaid, Ran, done, failed, unsaid, onto, followed_by, followed, tried, if_no_until, Blocks, Nothing, Line, Block, blocks_by, blocks_of}
+use Rattle.expansion.specs.Walk.{Out, Ending, Ended, Failed, Unsaid, Ran, done, onto, followed_by, followed, tried, if_no_until, Blocks, Nothing, Line, Block, blocks_by, blocks_of}
 use Rattle.expansion.specs.ToCome.{between, line_in, behind_of}
 
 -- ---- one after the other

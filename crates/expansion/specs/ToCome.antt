@@ -1,5 +1,5 @@
 -- What is still to come of an expansion. Public clauses compare it, and none looks inside.
-use Rattle.std.specs.Prelude.{◌≡◌, ℕ, ◌+◌, ◌-◌, ◌^◌, ◌==◌, Bool, true, false, ◌&&◌, ◌||◌, not, List, [], ◌∷◌, ◌++◌, length, map, min, reverse, take, nat_lt, slice_range, slice_get, Option, Some, None, option_map, is_some, Vec, is_none, Result, Ok, Err, if◌then◌else◌}
+use Rattle.std.specs.Prelude.{◌≡◌, ℕ, ◌+◌, ◌-◌, ◌^◌, ◌==◌, Bool, true, false, ◌&&◌, ◌||◌, not, List, [], ◌∷◌, ◌++◌, length, min, reverse, take, nat_lt, slice_range, slice_get, Option, Some, None, option_map, is_some, Vec, is_none, Result, Ok, Err, if◌then◌else◌}
 use Rattle.scenarios.specs.Lines.{TextLine}
 use Rattle.scenario_words.specs.declared.fault.Fault.{Fault}
 use Rattle.scenario_words.specs.declared.fault.ExpandError.{ExpandError}
@@ -22,7 +22,7 @@ use Rattle.expansion.specs.declared.together.Turn.{Turn}
 use Rattle.expansion.specs.Frames.{HeadNow, FrameNow, repeated, once, named_round, more_rounds, in_next_round}
 use Rattle.expansion.specs.Standings.{after_entry, after_rest}
 use Rattle.expansion.specs.Together.{PlacedNow, MemberNow, TogetherNow, list_of, next_of, next_entry, member_or, taken_if_left, added_some}
-use Rattle.expansion.specs.Walk.{Told, Out, Ran, Blocks, Gathered, Ending, Ended, Failed, Unsaid, done, failed, unsaid, onto, followed, tried, out_of, list_from, if_whole, lists_whole, merged, blocks_of, kept, told_by, rounds_gathered, round_gathered, gathered, if_no_until, rounds_walked, round_walked, walked, item_count, item_at, stands, member_for, lists_gathered, noted, noted_all, together_inside}
+use Rattle.expansion.specs.Walk.{Told, Out, Ran, Blocks, Gathered, Ending, Ended, Failed, Unsaid, done, failed, unsaid, onto, followed, tried, out_of, list_from, if_whole, lists_whole, merged, blocks_of, kept, rounds_gathered, round_gathered, gathered, if_no_until, rounds_walked, round_walked, walked, item_count, item_at, stands, member_for, lists_gathered, noted, noted_all, together_inside}
 
 -- ---- blocks at work
 

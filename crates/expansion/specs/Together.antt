@@ -1,5 +1,5 @@
 -- Lists that are worked together, and how much of each was taken.
-use Rattle.std.specs.Prelude.{◌≡◌, ℕ, zero, suc, ◌+◌, ◌-◌, ◌^◌, ◌<◌, Bool, List, [], ◌∷◌, ◌++◌, map, fold, min, nat_lt, slice_get, slice_index_or, slice_set, Option, Some, None, option_and_then, if◌then◌else◌}
+use Rattle.std.specs.Prelude.{◌≡◌, ℕ, zero, suc, ◌+◌, ◌-◌, ◌^◌, ◌<◌, Bool, List, [], ◌∷◌, ◌++◌, map, fold, min, nat_lt, slice_get, slice_set, Option, Some, None, option_and_then, if◌then◌else◌}
 use Rattle.scenario_lines.specs.declared.burst.Deed.{Deed}
 use Rattle.scenario_lines.specs.Acts.{entry_count}
 use Rattle.scenario_lines.specs.Tasks.{StandingNow}

@@ -1,5 +1,5 @@
 -- What a scenario stands for: its items in their order, up to its end, to its first fault, or to its first list with `until`.
-use Rattle.std.specs.Prelude.{◌≡◌, ℕ, zero, suc, ◌+◌, ◌-◌, Bool, true, false, not, List, [], ◌∷◌, ◌++◌, length, map, take, drop, codes, nat_lt, slice_range, slice_get, Option, Some, None, Result, Ok, Err, if◌then◌else◌}
+use Rattle.std.specs.Prelude.{ℕ, zero, suc, ◌+◌, ◌-◌, Bool, true, false, List, [], ◌∷◌, ◌++◌, length, take, drop, slice_get, Option, Some, None, Result, Ok, Err, if◌then◌else◌}
 use Rattle.machine.specs.declared.command.Actor.TheVariants as actor
 use Rattle.scenarios.specs.declared.lines.LineKind.{LineKind}
 use Rattle.scenarios.specs.declared.lines.LineKind.TheVariants as line

@@ -1,13 +1,14 @@
 //! The entries that a scenario stands for, one after the other.
 
-ghost use Rattle.std.specs.Prelude.{◌≡◌, ◌<◌, ◌+◌, ◌||◌, true, not, [], ◌∷◌, ◌++◌, List, length, is_some, option_copied, option_map, None, Some, Ok, IfOk, OnOk, if◌then◌else◌};
+ghost use Rattle.std.specs.Prelude.{◌≡◌, ◌<◌, ◌≤◌, ◌+◌, ◌-◌, ◌^◌, ◌||◌, true, not, [], ◌∷◌, ◌++◌, List, length, is_some, option_copied, option_map, min, None, Some, Ok, IfOk, OnOk, IfSome, if◌then◌else◌};
 ghost use Rattle.scenario_words.specs.Faults.{Gives, GivesAlways, as_is};
-ghost use Rattle.scenario_lines.specs.LineLists.{line_lists};
+ghost use Rattle.scenarios.specs.Lines.{opens_block};
+ghost use Rattle.scenario_lines.specs.LineLists.{line_lists, may_be_refused};
 ghost use Rattle.expansion.specs.Frames.{FrameNow, repeated, named_round};
 ghost use Rattle.expansion.specs.Standings.{after_entry, after_rest};
 ghost use Rattle.expansion.specs.Together.{PlacedNow, TogetherNow, list_of};
-ghost use Rattle.expansion.specs.Walk.{Gathered, item_count, item_at, stands, placed_by, lists_gathered};
-ghost use Rattle.expansion.specs.ToCome.{told_last, told_of, waits, item_before, line_item, line_in, one_told, none_told, IsTurnOf, one_turn, repeats, gathering, round_ended, opened_in, with_repeat, with_together, one_gathered, added_in, lists_in, line_gathered, line_queued};
+ghost use Rattle.expansion.specs.Walk.{expanded, Gathered, item_count, item_at, stands, placed_by, lists_gathered};
+ghost use Rattle.expansion.specs.ToCome.{is_quiet, still, is_said, Steps, Comes, Begins, Works, IsIdle, from_frame, told_last, told_of, waits, item_before, line_item, line_in, one_told, none_told, IsTurnOf, one_turn, repeats, gathering, round_ended, opened_in, with_repeat, with_together, one_gathered, added_in, lists_in, line_gathered, line_queued};
 
 use crate::frames::{Block, Frame};
 use crate::together::{Placed, Together, Turn, leave_behind, leave_one, leave_rest};
@@ -129,7 +130,9 @@ impl<'p> Expansion<'p> {
         scenario: &'p Scenario,
         settings: Vec<Named>,
         cuts: Cuts,
-    ) -> Result<Expansion<'p>, ExpandError> {
+    ) -> Result<Expansion<'p>, ExpandError>
+        ensures begins { Begins (expanded scenario.now.lines.items settings.items) result }
+    {
         let mut scene = Scene::new(alloc, settings);
         let lines = scenario.lines.as_slice();
         let begin = scene.read_header(lines)?;
@@ -466,9 +469,25 @@ fn line_in(lines: &[Line], at: usize, end: usize) -> Option<&Line>
     if at < end { lines.get(at) } else { None }
 }
 
+/// The place behind a line with so many lines in its block. The block around it ends before this place.
+fn place_behind(at: usize, inside: usize, end: usize) -> usize
+    ensures behind { at < end → result ≡ min (at + 1 + inside) end }
+    ensures within { at < end → at + 1 ≤ 2 ^ 64 - 1 }
+{
+    at.saturating_add(1).saturating_add(inside).min(end)
+}
+
+/// Whether a line could be refused, or one in its block.
+fn could_be_refused(line: &Line, words: &[Filled]) -> bool
+    ensures { result ≡ (opens_block line.now.kind || may_be_refused words.now) }
+{
+    line.kind().opens_block() || may_be_refused(words)
+}
+
 /// The item of a place of a list, if there is one.
 fn next_item(alloc: Global, deed: &Deed, place: u32) -> Result<Option<Item>, AllocError>
-    ensures { IfOk result (λ item. item ≡ item_before deed.now place) }
+    ensures item { IfOk result (λ item. item ≡ item_before deed.now place) }
+    ensures within { IfOk result (λ item. IfSome item (λ _. place + 1 ≤ 2 ^ 32 - 1)) }
 {
     if place < items_of(deed) {
         Ok(Some(item_of(alloc, deed, place)?))
@@ -502,7 +521,9 @@ fn items_of(deed: &Deed) -> u32
 
 impl<'p> Expansion<'p> {
     /// The next entry or note, or none at the end. An error is the first fault.
-    pub fn next(&mut self) -> Result<Option<Item>, ExpandError> {
+    pub fn next(&mut self) -> Result<Option<Item>, ExpandError>
+        ensures comes { is_said (still self.old) ≡ true → Comes (still self.old) result (told_last self.new) (still self.new) }
+    {
         for _ in 0..u64::MAX {
             match self.step()? {
                 Stepped::Item(item) => return Ok(Some(item)),
@@ -514,7 +535,9 @@ impl<'p> Expansion<'p> {
         Err(ExpandError::Memory)
     }
 
-    fn step(&mut self) -> Result<Stepped, ExpandError> {
+    fn step(&mut self) -> Result<Stepped, ExpandError>
+        ensures steps { is_said (still self.old) ≡ true → Steps (still self.old) result (told_last self.new) (still self.new) }
+    {
         if self.waits() {
             return Ok(self.tell_waiting());
         }
@@ -603,7 +626,8 @@ impl<'p> Expansion<'p> {
 
     /// The next item of the line at work, if there is one.
     fn item_of_line(&self) -> Result<Option<Item>, AllocError>
-        ensures { IfOk result (λ item. item ≡ line_item self.now.current self.now.taken) }
+        ensures item { IfOk result (λ item. item ≡ line_item self.now.current self.now.taken) }
+        ensures within { IfOk result (λ item. IfSome item (λ _. self.now.taken + 1 ≤ 2 ^ 32 - 1)) }
     {
         match &self.current {
             None => Ok(None),
@@ -625,7 +649,9 @@ impl<'p> Expansion<'p> {
     }
 
     /// The next item of the line at work.
-    fn step_line(&mut self) -> Result<Stepped, ExpandError> {
+    fn step_line(&mut self) -> Result<Stepped, ExpandError>
+        ensures steps { (b : Burst) → is_said (still self.old) ≡ true → self.old.together ≡ None → self.old.current ≡ Some b → Steps (still self.old) result (told_last self.new) (still self.new) }
+    {
         let Some(item) = self.item_of_line()? else {
             self.end_line()?;
             return Ok(Stepped::Nothing);
@@ -711,7 +737,9 @@ impl<'p> Expansion<'p> {
         Ok(())
     }
 
-    fn step_together(&mut self) -> Result<Stepped, ExpandError> {
+    fn step_together(&mut self) -> Result<Stepped, ExpandError>
+        ensures steps { (t : TogetherNow) → is_said (still self.old) ≡ true → self.old.together ≡ Some t → Steps (still self.old) result (told_last self.new) (still self.new) }
+    {
         let Some((turn, item)) = self.together_turn()? else {
             self.together = None;
             return Ok(Stepped::Nothing);
@@ -740,7 +768,9 @@ impl<'p> Expansion<'p> {
     }
 
     /// The next line, the next round, or the end of a block.
-    fn advance(&mut self) -> Result<Stepped, ExpandError> {
+    fn advance(&mut self) -> Result<Stepped, ExpandError>
+        ensures steps { is_said (still self.old) ≡ true → IsIdle self.old → Steps (still self.old) result (told_last self.new) (still self.new) }
+    {
         let Some(frame) = self.frames.pop() else {
             return Ok(Stepped::Ended);
         };
@@ -752,15 +782,15 @@ impl<'p> Expansion<'p> {
     }
 
     /// The next line of a block, which was the innermost one.
-    fn open_line(&mut self, frame: Frame, line: &Line) -> Result<(), ExpandError> {
-        let mut frame = frame;
+    fn open_line(&mut self, frame: Frame, line: &Line) -> Result<(), ExpandError>
+        ensures works { is_said (from_frame frame self.old) ≡ true → is_quiet self.old ≡ true → IsIdle self.old → line_in self.old.lines.now frame.at frame.end ≡ Some line.now → Works (from_frame frame self.old) result (still self.new) }
+    {
         let begin = frame.at.saturating_add(1);
-        let behind = begin.saturating_add(line.inside()).min(frame.end);
+        let behind = place_behind(frame.at, line.inside(), frame.end);
         let above = frame.above;
         let words = self.scene.words_of(line)?;
-        frame.at = behind;
-        frame.above = line.kind().opens_block() || may_be_refused(words.as_slice());
-        self.frames.push(frame)?;
+        let refusable = could_be_refused(line, words.as_slice());
+        self.frames.push(frame.moved(behind, refusable))?;
         self.line = line.number();
         match line.kind() {
             LineKind::Repeat => self.open_repeat(words, begin, behind),
@@ -954,7 +984,9 @@ impl<'p> Expansion<'p> {
     }
 
     /// The lines of a block are at their end.
-    fn end_round(&mut self, frame: Frame) -> Result<(), ExpandError> {
+    fn end_round(&mut self, frame: Frame) -> Result<(), ExpandError>
+        ensures works { is_said (from_frame frame self.old) ≡ true → is_quiet self.old ≡ true → IsIdle self.old → line_in self.old.lines.now frame.at frame.end ≡ None → Works (from_frame frame self.old) result (still self.new) }
+    {
         match frame.block {
             Block::All => Ok(()),
             Block::Together => {

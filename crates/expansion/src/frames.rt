@@ -282,6 +282,16 @@ impl Frame {
         scene.set_value(name.as_str(), value)
     }
 
+    /// The block at another line. `above` says whether a line that could be refused is right above that.
+    pub fn moved(self, at: usize, above: bool) -> Frame
+        ensures { result ≡ record self { at = at; above = above } }
+    {
+        let mut frame = self;
+        frame.at = at;
+        frame.above = above;
+        frame
+    }
+
     /// The next round, if there is one.
     pub fn next_round(&mut self) -> bool
         ensures more { result ≡ more_rounds self.old }

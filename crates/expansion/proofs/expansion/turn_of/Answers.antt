@@ -1,8 +1,6 @@
-use Rattle.std.proofs.Common.{◌≡◌, ℕ, ◌<◌, Option, Some, None, List, slice_get, sym, ap, subst, ◌∙◌}
+use Rattle.std.proofs.Common.{◌≡◌, ◌<◌, Option, Some, None, slice_get, sym, ap, subst, ◌∙◌}
 use Rattle.std.specs.Option.{option_map, option_copied}
-use Rattle.expansion.specs.declared.together.Turn.{Turn}
-use Rattle.expansion.specs.Merge.{IsNext}
-use Rattle.expansion.specs.Together.{PlacedNow, MemberNow, cursors_of, member_or, next_entry, list_of, with_place, next_of}
+use Rattle.expansion.specs.Together.{PlacedNow, member_or, list_of, with_place}
 use Rattle.expansion.specs.Walk.{item_count, item_at}
 use Rattle.expansion.proofs.StepLemmas.{next_of_is, first_left, left_entry, turn_within}
 use Rattle.expansion.proofs.expansion.turn_of.Goals as goal

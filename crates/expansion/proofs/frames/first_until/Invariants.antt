@@ -1,4 +1,4 @@
-use Rattle.std.proofs.Common.{◌≡◌, ◌≤◌, drop, max, length}
+use Rattle.std.proofs.Common.{◌≡◌, drop}
 use Rattle.expansion.specs.Frames.{first_until, until_among}
 use Rattle.expansion.proofs.frames.first_until.Given as goal
 

@@ -1,5 +1,4 @@
-use Rattle.std.proofs.Common.{◌≡◌, ◌<◌, ◌-◌, ◌+◌, ◌^◌, min, length, get_or, set, refl, ◌∙◌, sym, ap, arith, rules}
-use Rattle.std.proofs.lemmas.List.{get_or_read}
+use Rattle.std.proofs.Common.{◌≡◌, ◌<◌, ◌-◌, ◌+◌, ◌^◌, min, length, get_or, set, ◌∙◌, sym, ap, arith, rules}
 use Rattle.expansion.specs.declared.merge.Cursor.{Cursor}
 use Rattle.expansion.proofs.TogetherLemmas.{counted_last}
 use Rattle.expansion.proofs.together.add_entries.Goals as goal

@@ -1,4 +1,4 @@
-use Rattle.std.proofs.Common.{◌≡◌, ◌<◌, length, get_or, set, subst, sym, ap, ◌∙◌, arith, rules}
+use Rattle.std.proofs.Common.{◌<◌, set, subst, sym, ap, ◌∙◌, arith}
 use Rattle.expansion.specs.Together.{MemberNow, total, taken_once}
 use Rattle.expansion.proofs.TogetherLemmas.{left_less, left_within, set_taken}
 use Rattle.expansion.proofs.together.take_in.Goals as goal

@@ -1,4 +1,4 @@
-use Rattle.std.proofs.Common.{ap, refl, ◌∙◌}
+use Rattle.std.proofs.Common.{ap}
 use Rattle.expansion.specs.declared.expansion.Expansion.{Expansion}
 use Rattle.expansion.specs.ToCome.{told_of, gathering}
 use Rattle.expansion.proofs.StepLemmas.{gather_more, others_again}

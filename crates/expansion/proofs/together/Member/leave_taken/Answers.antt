@@ -1,9 +1,8 @@
 use Rattle.std.proofs.Common.{◌≡◌, ℕ, ◌<◌, ◌+◌, ◌-◌, List, length, get_or, refl, ap, sym, subst, ◌∙◌, arith}
 use Rattle.expansion.specs.Together.{PlacedNow, MemberNow, total_before, IsIn, entries, after_lists}
 use Rattle.scenario_lines.specs.Tasks.{TasksNow}
-use Rattle.scenario_lines.specs.declared.burst.Deed.{Deed}
 use Rattle.expansion.specs.Standings.{after_first, standing}
-use Rattle.expansion.proofs.TogetherLemmas.{list_behind, list_goes, all_behind, some_behind, none_behind, others_more, standings_of, left_over, no_list}
+use Rattle.expansion.proofs.TogetherLemmas.{list_behind, list_goes, all_behind, some_behind, none_behind, left_over, no_list}
 use Rattle.expansion.proofs.together.Member.leave_taken.Goals as goal
 use Rattle.expansion.proofs.together.Member.leave_taken.Goals.{Joined-place-self, then-place-self+in_ok-leave_behind, else-place-self+then-place-self-2+in_ok-leave_behind-2, else-place-self+else-place-self-2}
 

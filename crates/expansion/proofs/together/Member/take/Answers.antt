@@ -1,7 +1,7 @@
-use Rattle.std.proofs.Common.{◌≡◌, ◌<◌, ◌≤◌, ◌+◌, Some, None, List, length, slice_get, sym, ap, ◌∙◌, rules, arith}
+use Rattle.std.proofs.Common.{◌≡◌, ◌<◌, Some, List, slice_get, sym, ap, ◌∙◌, arith}
 use Rattle.std.specs.Option.{option_copied}
 use Rattle.expansion.specs.Together.{PlacedNow, entries}
-use Rattle.expansion.proofs.TogetherLemmas.{list_at, still_in, next_in, one_more_there, one_more_ends, nothing_left}
+use Rattle.expansion.proofs.TogetherLemmas.{list_at, still_in, next_in, one_more_ends, nothing_left}
 use Rattle.expansion.proofs.together.Member.take.Goals as goal
 
 pub returns-in_default : goal.returns-in_default

@@ -1,6 +1,6 @@
 use Rattle.std.proofs.Common.{◌≡◌, List, ap, sym, ◌∙◌, rules}
 use Rattle.expansion.specs.declared.merge.Cursor.{Cursor}
-use Rattle.expansion.specs.Together.{entries, cursors_of, added, counted}
+use Rattle.expansion.specs.Together.{entries, cursors_of, counted}
 use Rattle.expansion.proofs.TogetherLemmas.{cursors_added}
 use Rattle.expansion.proofs.together.Together.add.Goals as goal
 

@@ -1,4 +1,4 @@
-use Rattle.std.proofs.Common.{◌≡◌, ◌<◌, ◌≤◌, List, refl, ap, sym, ◌∙◌, length, get_or, arith}
+use Rattle.std.proofs.Common.{◌≡◌, ◌<◌, ◌≤◌, List, refl, ap, ◌∙◌, length, get_or, arith}
 use Rattle.expansion.specs.Together.{MemberNow, TogetherNow}
 use Rattle.expansion.proofs.TogetherLemmas.{others_more, standings_of, left_over, member_behind, no_member}
 use Rattle.expansion.proofs.together.Together.leave_taken.Goals as goal

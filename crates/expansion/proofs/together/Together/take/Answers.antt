@@ -1,7 +1,7 @@
 use Rattle.std.proofs.Common.{◌≡◌, true, false, List, Option, sym, ap, ◌∙◌}
 use Rattle.std.specs.Option.{option_map}
 use Rattle.scenario_lines.specs.Tasks.{StandingNow}
-use Rattle.expansion.specs.Together.{MemberNow, TogetherNow, has_left, taken_of, taken_if_left, one_taken}
+use Rattle.expansion.specs.Together.{MemberNow, TogetherNow, has_left, taken_if_left}
 use Rattle.expansion.proofs.TogetherLemmas.{left_from, taken_cursors, is_left, none_left}
 use Rattle.expansion.proofs.together.Together.take.Goals as goal
 
