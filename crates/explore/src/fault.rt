@@ -61,6 +61,10 @@ impl<T: Drop> From<AllocFailed<T>> for Fault {
 }
 
 impl From<OrdersFault> for Fault {
+    ghost use Rattle.explore.specs.Explores.{IsOfRun};
+
+    ghost from_gives = { λ _ e. IsOfRun e };
+
     fn from(fault: OrdersFault) -> Fault {
         match fault {
             OrdersFault::Changed => Fault::Changed,

@@ -7,7 +7,10 @@
 
 mod asked;
 mod fault;
+mod listing;
 mod report;
+mod rows;
+mod said;
 mod script;
 mod shown;
 mod trial;

@@ -1,18 +1,20 @@
 //! What is said of an exploration.
 
-ghost use Rattle.std.specs.Prelude.{◌≡◌, true};
+ghost use Rattle.std.specs.Prelude.{◌≡◌, true, None, length, IfOk, IfErr};
+ghost use Rattle.std.specs.String.{string_bytes};
 ghost use Rattle.machine.specs.State.{is_config};
+ghost use Rattle.explore.specs.Explores.{verdict_of, IsListOf, Explores, IsOfRun, Explains};
 
 use crate::asked::Asked;
 use crate::fault::Fault;
-use crate::script::{Goes, goes_of, parts_of};
+use crate::listing::{Listed, list, ranked, rows_of};
+use crate::script::{Goes, parts_of};
 use crate::shown::shown;
 use crate::trial::try_setup;
-use explorer::{Exploration, Parts, Table, explore};
+use explorer::{Exploration, Parts, explore};
 use schedules::Schedule;
 use scripts::Mode;
-use std::alloc::{AllocError, Global};
-use std::fmt;
+use std::alloc::Global;
 use std::io::Write;
 use walks::Walk;
 
@@ -27,82 +29,35 @@ pub enum Verdict {
     MoreTurns(u32),
 }
 
-/// A number of things.
-#[derive(Clone, Copy)]
-struct Many(u64, &'static str);
-
-impl fmt::Display for Many {
-    fn fmt<W: fmt::Write>(&self, f: &mut fmt::Formatter<W>) -> fmt::Result {
-        let Many(count, what) = *self;
-        if count == 1 {
-            write!(f, "1 {what}")
-        } else {
-            write!(f, "{count} {what}s")
-        }
-    }
-}
-
-/// Adds the first line: how many orders were run, how long they are, and how many outcomes they have.
-fn add_first_line(text: &mut String, found: &Exploration, orders: u64) -> Result<(), AllocError> {
-    match found.walk {
-        Walk::All(_) => {}
-        Walk::Stopped | Walk::TooDeep => text.push_str("not all: ")?,
-    }
-    write!(text, "{}, of ", Many(orders, "order"))?;
-    if found.shortest < found.longest {
-        write!(text, "{} to ", found.shortest)?;
-    }
-    write!(text, "{}, ", Many(found.longest as u64, "turn"))?;
-    let have = if orders == 1 { "has" } else { "have" };
-    writeln!(text, "{have} {}", Many(found.table.len() as u64, "outcome"))
-}
-
-/// Adds the outcomes, each with the number of its orders.
-fn add_outcomes(alloc: Global, text: &mut String, table: &Table) -> Result<(), AllocError> {
-    for (rank, place) in table.ranked(alloc)?.iter().enumerate() {
-        if let Some((outcome, found)) = table.get(*place) {
-            let orders = Many(found.orders, "order");
-            writeln!(text, "outcome {}: {orders}", rank.saturating_add(1))?;
-            text.push_str(outcome.as_str())?;
-        }
-    }
-    Ok(())
-}
-
-/// How many orders were counted.
-fn orders_of(table: &Table) -> u64 {
-    let mut orders: u64 = 0;
-    for place in 0..table.len() {
-        if let Some((_, found)) = table.get(place) {
-            orders = orders.saturating_add(found.orders);
-        }
-    }
-    orders
-}
-
-/// The list of outcomes.
-fn list(alloc: Global, found: &Exploration) -> Result<String, AllocError> {
-    let mut text = String::new(alloc);
-    let orders = orders_of(&found.table);
-    if orders == 0 {
-        text.push_str("no order was run to its end\n")?;
-        return Ok(text);
-    }
-    add_first_line(&mut text, found, orders)?;
-    add_outcomes(alloc, &mut text, &found.table)?;
-    Ok(text)
-}
-
-/// The place of the outcome with this number, from 1.
-fn place_of(alloc: Global, table: &Table, number: u64) -> Result<usize, Fault> {
-    let ranked = table.ranked(alloc)?;
+/// The path of the first order with the outcome of this number, from 1.
+fn path_of<'t>(rows: &[Listed<'t>], number: u64) -> Result<&'t [u32], Fault>
+    ensures { IfErr result IsOfRun }
+{
     match usize::try_from(number.wrapping_sub(1)) {
-        Ok(rank) => match ranked.get(rank) {
-            Some(place) => Ok(*place),
-            None => Err(Fault::NoOutcome(number, table.len())),
+        Ok(rank) => match rows.get(rank) {
+            Some(row) => Ok(row.first),
+            None => Err(Fault::NoOutcome(number, rows.len())),
         },
-        Err(_) => Err(Fault::NoOutcome(number, table.len())),
+        Err(_) => Err(Fault::NoOutcome(number, rows.len())),
     }
+}
+
+/// The first order with the outcome of this number, as a script.
+fn shown_order(
+    alloc: Global,
+    script: &[u8],
+    goes: Goes,
+    parts: &Parts,
+    schedule: &Schedule,
+    found: &[Listed<'_>],
+    number: u64,
+) -> Result<String, Fault>
+    requires { is_config parts.now.config ≡ true }
+    ensures { IfErr result IsOfRun }
+{
+    let rows = ranked(alloc, found)?;
+    let path = path_of(&rows, number)?;
+    Ok(shown(alloc, script, goes, parts, schedule, path)?)
 }
 
 /// What is printed.
@@ -116,21 +71,23 @@ fn text_of(
     found: &Exploration,
 ) -> Result<String, Fault>
     requires { is_config parts.now.config ≡ true }
+    ensures list { asked.show ≡ None → IfOk result (λ text. IsListOf asked found.now.walk found.now.table (string_bytes text)) }
+    ensures why { IfErr result IsOfRun }
 {
+    let rows = rows_of(alloc, &found.table)?;
     match asked.show {
-        None => Ok(list(alloc, found)?),
-        Some(number) => {
-            let place = place_of(alloc, &found.table, number)?;
-            let Some((_, found)) = found.table.get(place) else {
-                return Err(Fault::NoOutcome(number, found.table.len()));
-            };
-            Ok(shown(alloc, script, goes, parts, schedule, &found.first)?)
+        None => {
+            let turns = (found.shortest, found.longest);
+            Ok(list(alloc, found.walk, asked.orders, turns, &rows)?)
         }
+        Some(number) => shown_order(alloc, script, goes, parts, schedule, &rows, number),
     }
 }
 
 /// How it ended.
-fn verdict_of(asked: Asked, found: &Exploration) -> Verdict {
+fn verdict_of(asked: Asked, found: &Exploration) -> Verdict
+    ensures { result ≡ verdict_of asked found.now.walk (length found.now.table) }
+{
     match found.walk {
         Walk::All(_) => Verdict::All(found.table.len()),
         Walk::Stopped => Verdict::MoreOrders(asked.orders),
@@ -145,14 +102,16 @@ pub fn explore_script<O: Write>(
     asked: Asked,
     script: &[u8],
     out: &mut O,
-) -> Result<Verdict, Fault> {
-    let goes = goes_of(script);
+) -> Result<Verdict, Fault>
+    ensures explores { IfOk result (λ verdict. Explores asked script.now verdict (O.contents out.old) (O.contents out.new)) }
+    ensures why { IfErr result (Explains script.now) }
+{
     let mut read = match scripts::read(alloc, script, Mode::Schedule) {
         Ok(read) => read,
         Err(fault) => return Err(Fault::Script(fault)),
     };
     read.config.placement = asked.placement;
-    let (parts, schedule) = parts_of(alloc, goes, read)?;
+    let (parts, schedule, goes) = parts_of(alloc, script, read)?;
     try_setup(alloc, goes, &parts, &schedule)?;
     let found = explore(alloc, &parts, asked.turns, asked.orders)?;
     let text = text_of(alloc, asked, script, goes, &parts, &schedule, &found)?;

@@ -1,14 +1,22 @@
 //! The parts of a script.
 
-ghost use Rattle.std.specs.Prelude.{◌≡◌, ◌<◌, ◌^◌, length, IfOk};
+ghost use Rattle.std.specs.Prelude.{◌≡◌, ◌++◌, ◌<◌, ◌^◌, List, fold, map, length, false, [], IfOk, IfErr, OnOk};
+ghost use Rattle.std.specs.List.{filter_map, flat_map, list_any, position, before_first, after_first};
+ghost use Rattle.std.specs.Str.Lines.{lines};
+ghost use Rattle.scripts.specs.declared.meaning.Item.{Item};
+ghost use Rattle.scripts.specs.Work.{with_actor};
+ghost use Rattle.explore.specs.Division.{shown_row, IsDivided};
+ghost use Rattle.explore.specs.Explores.{IsOfRun};
+ghost use Rattle.explore.specs.Said.{IsRead};
+ghost use Rattle.explore.specs.Sorting.{goes, steps_asked, is_apart, left, worker, begun, AreSorted};
 
 use crate::fault::Fault;
+use crate::rows::{actors_of, rows_of};
+use crate::said::{Said, said_in};
 use explorer::{Parts, Row, copy_of_step};
-use machine::command::{Actor, Command, Step};
-use schedules::{Entry, Line, Schedule};
-use scripts::lines::{as_text, first_line};
-use scripts::words::words_of;
-use scripts::{Script, number_of};
+use machine::command::Step;
+use schedules::Schedule;
+use scripts::Script;
 use std::alloc::{AllocError, Global};
 
 /// The numbers of the first two `go` lines of a script, from 1. A `go` that is missing has a number above all lines.
@@ -18,99 +26,92 @@ pub struct Goes {
     pub second: usize,
 }
 
-/// Whether the line is `go`.
-fn is_go(line: &[u8]) -> bool {
-    let Some(text) = as_text(line) else {
-        return false;
-    };
-    let words = words_of(text);
-    match words.as_slice() {
-        [word] => word.text() == "go",
-        _ => false,
+fn is_go(said: &Said) -> bool
+    ensures { result ≡ goes said.now }
+{
+    match said {
+        Said::Go => true,
+        Said::Nothing | Said::Does(_, _) | Said::Step(_) => false,
     }
 }
 
-/// The `go` lines of a script.
-pub fn goes_of(script: &[u8]) -> Goes {
-    let mut goes = Goes {
-        first: usize::MAX,
-        second: usize::MAX,
-    };
-    let mut rest = script;
-    // Each line takes a byte at least.
-    for before in 0..script.len() {
-        if rest.is_empty() {
-            break;
-        }
-        let (line, after) = first_line(rest);
-        if is_go(line) {
-            if goes.first == usize::MAX {
-                goes.first = before + 1;
-            } else if goes.second == usize::MAX {
-                goes.second = before + 1;
-            }
-        }
-        rest = after;
+fn is_apart(said: &Said) -> bool
+    ensures { result ≡ is_apart said.now }
+{
+    match said {
+        Said::Step(_) => true,
+        Said::Nothing | Said::Go | Said::Does(_, _) => false,
     }
-    goes
+}
+
+fn go_in(said: &[Said]) -> Option<usize>
+    ensures { result ≡ position goes said.now }
+{
+    said.iter().position(|line| is_go(line))
+}
+
+/// The first line that takes a command apart.
+fn apart_in(said: &[Said]) -> Option<usize>
+    ensures { result ≡ position is_apart said.now }
+{
+    said.iter().position(|line| is_apart(line))
+}
+
+/// The lines before the first `go`, and those behind it.
+fn divided(said: &[Said]) -> (&[Said], &[Said])
+    ensures before { result.0.now ≡ before_first goes said.now }
+    ensures behind { result.1.now ≡ after_first goes said.now }
+{
+    match go_in(said) {
+        Some(place) => (&said[..place], &said[place + 1..]),
+        None => (said, &[]),
+    }
 }
 
 /// Adds the steps of a line.
-fn add_steps(alloc: Global, steps: &mut Vec<Step>, entry: &Entry) -> Result<(), AllocError> {
-    match entry {
-        Entry::Whole(actor, command) => {
+fn add_asked(alloc: Global, steps: &mut Vec<Step>, line: &Said) -> Result<(), AllocError>
+    ensures { OnOk result (steps.new.items ≡ steps.old.items ++ steps_asked line.now) }
+{
+    match line {
+        Said::Nothing | Said::Go => {}
+        Said::Does(actor, command) => {
             steps.push(Step::Begin(*actor, command.copy(alloc)?))?;
             steps.push(Step::Finish(*actor))?;
         }
-        Entry::Step(step) => steps.push(copy_of_step(alloc, step)?)?,
+        Said::Step(step) => steps.push(copy_of_step(alloc, step)?)?,
     }
     Ok(())
 }
 
-/// Who does the work of the actor's lines. Only what the shell does can't be taken apart: control does it.
-fn worker_for(actor: Actor) -> Actor {
-    match actor {
-        Actor::Shell => Actor::Control,
-        Actor::Control | Actor::Daemon | Actor::Task(_) => actor,
-    }
-}
-
-/// The place of the actor's row, which is added if there is none. Rows are in rising order of `scripts::number_of`.
-fn row_of(alloc: Global, rows: &mut Vec<Row>, actor: Actor) -> Result<usize, AllocError>
-    ensures { IfOk result (λ place. place < length rows.new.items) }
+/// The steps of these lines.
+fn steps_of(alloc: Global, said: &[Said]) -> Result<Vec<Step>, AllocError>
+    ensures { IfOk result (λ steps. steps.items ≡ flat_map steps_asked said.now) }
 {
-    let number = number_of(actor);
-    let place = rows.partition_point(|row| number_of(row.actor) < number);
-    let is_there = match rows.get(place) {
-        Some(row) => number_of(row.actor) == number,
-        None => false,
-    };
-    if !is_there {
-        let row = Row {
-            actor,
-            lines: Vec::new(alloc),
-            numbers: Vec::new(alloc),
-        };
-        rows.insert(place, row)?;
+    let mut steps = Vec::new(alloc);
+    for line in said {
+        add_asked(alloc, &mut steps, line)?;
     }
-    Ok(place)
+    Ok(steps)
 }
 
-/// Another line of an actor's work.
-fn add_work(
-    alloc: Global,
-    rows: &mut Vec<Row>,
-    number: usize,
-    actor: Actor,
-    command: &Command,
-) -> Result<(), AllocError> {
-    let worker = worker_for(actor);
-    let begin = Step::Begin(worker, command.copy(alloc)?);
-    let place = row_of(alloc, rows, worker)?;
-    let row = &mut rows[place];
-    row.lines.push(begin)?;
-    row.numbers.push(number)?;
-    Ok(())
+/// The work of each actor. The first line of the work has the number `first`.
+fn work_of(alloc: Global, setup: &[Said], work: &[Said], first: usize) -> Result<Vec<Row>, Fault>
+    ensures whole { OnOk result (list_any is_apart work.now ≡ false) }
+    ensures rows { IfOk result (λ rows. map shown_row rows.items ≡ map (λ who. (who, filter_map (begun who) work.now)) (fold with_actor (fold with_actor [] (filter_map left setup.now)) (filter_map worker work.now))) }
+    ensures few { IfOk result (λ rows. length rows.items < 2 ^ 32) }
+    ensures why { IfErr result IsOfRun }
+{
+    if let Some(place) = apart_in(work) {
+        return Err(Fault::TakesApart(first.saturating_add(place)));
+    }
+    let actors = actors_of(alloc, setup, work)?;
+    if actors.is_empty() {
+        return Err(Fault::NoWork);
+    }
+    if actors.len() > crate::MOST_ACTORS {
+        return Err(Fault::TooManyActors(actors.len()));
+    }
+    Ok(rows_of(alloc, &actors, work, first)?)
 }
 
 /// The lines of a script, by the parts that they are in.
@@ -119,56 +120,39 @@ struct Sorted {
     setup: Vec<Step>,
     rows: Vec<Row>,
     looks: Vec<Step>,
+    goes: Goes,
 }
 
-/// Adds what a line asks for.
-fn add_line(alloc: Global, goes: Goes, parts: &mut Sorted, line: &Line) -> Result<(), Fault> {
-    if line.number > goes.second {
-        add_steps(alloc, &mut parts.looks, &line.entry)?;
-        return Ok(());
-    }
-    if line.number > goes.first {
-        return match &line.entry {
-            Entry::Whole(actor, command) => {
-                add_work(alloc, &mut parts.rows, line.number, *actor, command)?;
-                Ok(())
-            }
-            Entry::Step(_) => Err(Fault::TakesApart(line.number)),
-        };
-    }
-    // A command that is only begun goes on in the work.
-    if let Entry::Step(Step::Begin(actor, _)) = &line.entry {
-        row_of(alloc, &mut parts.rows, *actor)?;
-    }
-    add_steps(alloc, &mut parts.setup, &line.entry)?;
-    Ok(())
-}
-
-/// The lines of a schedule, by the parts that they are in.
-fn sort_lines(alloc: Global, goes: Goes, schedule: &Schedule) -> Result<Sorted, Fault>
-    ensures { IfOk result (λ parts. length parts.rows.items < 2 ^ 32) }
+/// Sorts the lines by the parts that they are in.
+fn sort_lines(alloc: Global, said: &[Said]) -> Result<Sorted, Fault>
+    ensures sorted { IfOk result (AreSorted said.now) }
+    ensures few { IfOk result (λ parts. length parts.rows.items < 2 ^ 32) }
+    ensures why { IfErr result IsOfRun }
 {
-    let mut parts = Sorted {
-        setup: Vec::new(alloc),
-        rows: Vec::new(alloc),
-        looks: Vec::new(alloc),
-    };
-    for line in schedule.lines() {
-        add_line(alloc, goes, &mut parts, line)?;
-    }
-    if parts.rows.is_empty() {
-        return Err(Fault::NoWork);
-    }
-    if parts.rows.len() > crate::MOST_ACTORS {
-        return Err(Fault::TooManyActors(parts.rows.len()));
-    }
-    Ok(parts)
+    let (setup, behind) = divided(said);
+    let (work, looks) = divided(behind);
+    let first = setup.len().saturating_add(1);
+    let second = first.saturating_add(work.len()).saturating_add(1);
+    Ok(Sorted {
+        setup: steps_of(alloc, setup)?,
+        rows: work_of(alloc, setup, work, first.saturating_add(1))?,
+        looks: steps_of(alloc, looks)?,
+        goes: Goes { first, second },
+    })
 }
 
-/// The parts of a script that was read as a schedule, and its schedule.
-pub fn parts_of(alloc: Global, goes: Goes, script: Script) -> Result<(Parts, Schedule), Fault>
+/// The parts of a script, what was read of it, and where its parts end.
+pub fn parts_of(
+    alloc: Global,
+    text: &[u8],
+    script: Script,
+) -> Result<(Parts, Schedule, Goes), Fault>
     ensures config { IfOk result (λ read. read.0.config ≡ script.config) }
+    ensures read_faults { IfOk result (λ read. read.0.read_faults ≡ script.read_faults) }
+    ensures write_faults { IfOk result (λ read. read.0.write_faults ≡ script.write_faults) }
+    ensures divided { (is : List Item) → IsRead is (lines text.now) script.schedule → IfOk result (λ read. IsDivided is read.0) }
     ensures few { IfOk result (λ read. length read.0.rows.items < 2 ^ 32) }
+    ensures why { IfErr result IsOfRun }
 {
     let Script {
         config,
@@ -177,7 +161,13 @@ pub fn parts_of(alloc: Global, goes: Goes, script: Script) -> Result<(Parts, Sch
         schedule,
         ..
     } = script;
-    let Sorted { setup, rows, looks } = sort_lines(alloc, goes, &schedule)?;
+    let said = said_in(alloc, text, &schedule)?;
+    let Sorted {
+        setup,
+        rows,
+        looks,
+        goes,
+    } = sort_lines(alloc, &said)?;
     let parts = Parts {
         config,
         read_faults,
@@ -186,5 +176,5 @@ pub fn parts_of(alloc: Global, goes: Goes, script: Script) -> Result<(Parts, Sch
         rows,
         looks,
     };
-    Ok((parts, schedule))
+    Ok((parts, schedule, goes))
 }

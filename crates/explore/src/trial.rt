@@ -1,7 +1,8 @@
 //! A trial of the setup.
 
-ghost use Rattle.std.specs.Prelude.{◌≡◌, true};
+ghost use Rattle.std.specs.Prelude.{◌≡◌, true, IfErr};
 ghost use Rattle.machine.specs.State.{is_config};
+ghost use Rattle.explore.specs.Explores.{IsOfRun};
 
 use crate::fault::Fault;
 use crate::script::Goes;
@@ -51,7 +52,9 @@ fn try_lines(
     run: &mut Stepper<MemDevice>,
     goes: Goes,
     schedule: &Schedule,
-) -> Result<(), Fault> {
+) -> Result<(), Fault>
+    ensures { IfErr result IsOfRun }
+{
     let mut said = Vec::new(alloc);
     for line in schedule.lines() {
         if line.number > goes.first {
@@ -69,6 +72,7 @@ fn try_lines(
 /// Whether each line of the setup does what it asks for. A line that is answered `killed` does not fail.
 pub fn try_setup(alloc: Global, goes: Goes, parts: &Parts, schedule: &Schedule) -> Result<(), Fault>
     requires { is_config parts.now.config ≡ true }
+    ensures { IfErr result IsOfRun }
 {
     let mut run = open_run(alloc, parts)?;
     let tried = try_lines(alloc, &mut run, goes, schedule);

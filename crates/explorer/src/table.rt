@@ -1,9 +1,10 @@
 //! How many orders give each outcome.
 
-ghost use Rattle.std.specs.Prelude.{◌≡◌, [], length, IfOk, OnOk, OnErr};
+ghost use Rattle.std.specs.Prelude.{◌≡◌, [], length, slice_get, IfOk, OnOk, OnErr};
+ghost use Rattle.std.specs.Option.{option_map};
 ghost use Rattle.std.specs.String.{string_bytes};
 ghost use Rattle.explorer.specs.Tally.{with_order};
-ghost use Rattle.explorer.specs.Tables.{row_for, IsFoundWith};
+ghost use Rattle.explorer.specs.Tables.{row_for, IsFoundWith, shown_found};
 
 use indexmap::IndexMap;
 use std::alloc::{AllocError, Global};
@@ -84,7 +85,9 @@ impl Table {
     }
 
     /// The outcome at this place, and what was found of it.
-    pub fn get(&self, place: usize) -> Option<(&String, &Found)> {
+    pub fn get(&self, place: usize) -> Option<(&String, &Found)>
+        ensures { option_map shown_found result ≡ slice_get self.now place }
+    {
         self.rows.get_index(place)
     }
 

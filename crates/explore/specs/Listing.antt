@@ -1,0 +1,60 @@
+-- The list of outcomes that is printed.
+use Rattle.std.specs.Prelude.{ℕ, ◌+◌, Bool, ◌==◌, nat_lt, List, [], ◌∷◌, ◌++◌, fold, length, codes, decimal, if◌then◌else◌}
+use Rattle.std.specs.List.{sum_by}
+use Rattle.machine.specs.Control.{line}
+use Rattle.walks.specs.declared.Walk.{Walk}
+use Rattle.walks.specs.declared.Walk.TheVariants.{All, Stopped, TooDeep}
+use Rattle.explorer.specs.Tally.{Counted}
+
+-- a number of things
+abbrev pub many : ℕ → List ℕ → List ℕ
+many n what = if n == 1 then codes "1 " ++ what else decimal n ++ codes " " ++ what ++ codes "s"
+
+-- ---- the first line
+
+-- whether all orders were run
+abbrev pub how_far : Walk → List ℕ
+how_far (All count) = codes ""
+how_far Stopped = codes "not all: "
+how_far TooDeep = codes "not all: "
+
+-- how many turns the orders have
+abbrev pub turns_text : ℕ → ℕ → List ℕ
+turns_text shortest longest = (if nat_lt shortest longest then decimal shortest ++ codes " to " else []) ++ many longest (codes "turn")
+
+abbrev pub have : ℕ → List ℕ
+have orders = if orders == 1 then codes "has " else codes "have "
+
+abbrev pub first_line : Walk → ℕ → ℕ → ℕ → ℕ → List ℕ
+first_line walk orders shortest longest outcomes =
+    line (how_far walk ++ many orders (codes "order") ++ codes ", of " ++ turns_text shortest longest ++ codes ", " ++ have orders ++ many outcomes (codes "outcome"))
+
+-- ---- the outcomes
+
+-- the row before those of which fewer orders are, behind those of which as many are
+abbrev pub with_ranked : List Counted → Counted → List Counted
+with_ranked [] row = row ∷ []
+with_ranked (first ∷ rows) row = if nat_lt first.orders row.orders then row ∷ first ∷ rows else first ∷ with_ranked rows row
+
+-- the rows by how many orders give the outcome, the most first; of two with as many orders the first remains first
+abbrev pub ranked : List Counted → List Counted
+ranked rows = fold with_ranked [] rows
+
+-- an outcome with this number: how many orders give it, and its lines. (Excludes the count of another outcome.)
+abbrev pub row_text : ℕ → Counted → List ℕ
+row_text number row = line (codes "outcome " ++ decimal number ++ codes ": " ++ many row.orders (codes "order")) ++ row.outcome
+
+-- outcomes, numbered from this number. (Excludes an outcome that is left out.)
+abbrev pub rows_text : ℕ → List Counted → List ℕ
+rows_text number [] = []
+rows_text number (row ∷ rows) = row_text number row ++ rows_text (number + 1) rows
+
+-- how many orders were run to their end
+abbrev pub orders_in : Walk → ℕ → List Counted → ℕ
+orders_in (All count) most rows = count
+orders_in Stopped most rows = most
+orders_in TooDeep most rows = sum_by (λ (row : Counted). row.orders) rows
+
+abbrev pub list_text : Walk → ℕ → ℕ → ℕ → List Counted → List ℕ
+list_text walk orders shortest longest rows =
+    if orders == 0 then line (codes "no order was run to its end") else first_line walk orders shortest longest (length rows) ++ rows_text 1 (ranked rows)

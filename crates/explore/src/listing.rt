@@ -1,0 +1,226 @@
+//! The list of outcomes.
+
+ghost use Rattle.std.specs.Prelude.{◌≡◌, ◌++◌, ◌+◌, map, length, IfOk, OnOk};
+ghost use Rattle.std.specs.String.{string_bytes};
+ghost use Rattle.std.specs.List.{sum_by, position};
+ghost use Rattle.explorer.specs.Tally.{Counted};
+ghost use Rattle.explore.specs.Listing.{many, how_far, turns_text, have, first_line, with_ranked, ranked, row_text, rows_text, orders_in, list_text};
+ghost use Rattle.explore.specs.Listed.{shown, shown_rows, is_fewer};
+
+use explorer::{Found, Table};
+use std::alloc::{AllocError, Global};
+use walks::Walk;
+
+/// An outcome with what was found of it.
+#[derive(Clone, Copy)]
+pub struct Listed<'t> {
+    pub outcome: &'t str,
+    /// How many orders give it.
+    pub orders: u64,
+    /// The path of the first of them.
+    pub first: &'t [u32],
+}
+
+/// Adds a number of things.
+fn add_many(text: &mut String, count: u64, what: &str) -> Result<(), AllocError>
+    ensures { OnOk result (string_bytes text.new ≡ string_bytes text.old ++ many count what.now) }
+{
+    if count == 1 {
+        text.push_str("1 ")?;
+        return text.push_str(what);
+    }
+    write!(text, "{count} ")?;
+    text.push_str(what)?;
+    text.push_str("s")
+}
+
+/// Adds whether all orders were run.
+fn add_how_far(text: &mut String, walk: Walk) -> Result<(), AllocError>
+    ensures { OnOk result (string_bytes text.new ≡ string_bytes text.old ++ how_far walk) }
+{
+    match walk {
+        Walk::All(_) => Ok(()),
+        Walk::Stopped | Walk::TooDeep => text.push_str("not all: "),
+    }
+}
+
+/// Adds how many turns the orders have.
+fn add_turns(text: &mut String, shortest: usize, longest: usize) -> Result<(), AllocError>
+    ensures { OnOk result (string_bytes text.new ≡ string_bytes text.old ++ turns_text shortest longest) }
+{
+    if shortest < longest {
+        write!(text, "{shortest} to ")?;
+    }
+    add_many(text, longest as u64, "turn")
+}
+
+fn add_have(text: &mut String, orders: u64) -> Result<(), AllocError>
+    ensures { OnOk result (string_bytes text.new ≡ string_bytes text.old ++ have orders) }
+{
+    if orders == 1 {
+        text.push_str("has ")
+    } else {
+        text.push_str("have ")
+    }
+}
+
+/// Adds the first line: how many orders were run, how long they are, and how many outcomes they have.
+fn add_first_line(
+    text: &mut String,
+    walk: Walk,
+    orders: u64,
+    turns: (usize, usize),
+    outcomes: usize,
+) -> Result<(), AllocError>
+    ensures { OnOk result (string_bytes text.new ≡ string_bytes text.old ++ first_line walk orders turns.0 turns.1 outcomes) }
+{
+    add_how_far(text, walk)?;
+    add_many(text, orders, "order")?;
+    text.push_str(", of ")?;
+    add_turns(text, turns.0, turns.1)?;
+    text.push_str(", ")?;
+    add_have(text, orders)?;
+    add_many(text, outcomes as u64, "outcome")?;
+    text.push_str("\n")
+}
+
+/// Adds an outcome with its number.
+fn add_row(text: &mut String, number: usize, row: &Listed<'_>) -> Result<(), AllocError>
+    ensures { OnOk result (string_bytes text.new ≡ string_bytes text.old ++ row_text number (shown row.now)) }
+{
+    write!(text, "outcome {number}: ")?;
+    add_many(text, row.orders, "order")?;
+    text.push_str("\n")?;
+    text.push_str(row.outcome)
+}
+
+/// Adds the outcomes, numbered from 1.
+fn add_rows(text: &mut String, rows: &[Listed<'_>]) -> Result<(), AllocError>
+    ensures { OnOk result (string_bytes text.new ≡ string_bytes text.old ++ rows_text 1 (shown_rows rows.now)) }
+{
+    for (place, row) in rows.iter().enumerate() {
+        add_row(text, place + 1, row)?;
+    }
+    Ok(())
+}
+
+fn row_with<'t>(outcome: &'t String, found: &'t Found) -> Listed<'t>
+    ensures { shown result ≡ record { outcome = string_bytes outcome.now; orders = found.now.orders; first = found.now.first.items } }
+{
+    Listed {
+        outcome: outcome.as_str(),
+        orders: found.orders,
+        first: found.first.as_slice(),
+    }
+}
+
+/// The outcomes of a table, by first appearance.
+pub fn rows_of<'t>(alloc: Global, table: &'t Table) -> Result<Vec<Listed<'t>>, AllocError>
+    ensures { IfOk result (λ rows. shown_rows rows.items ≡ table.now) }
+{
+    let mut rows = Vec::new(alloc);
+    for place in 0..table.len() {
+        if let Some((outcome, found)) = table.get(place) {
+            rows.push(row_with(outcome, found))?;
+        }
+    }
+    Ok(rows)
+}
+
+fn is_fewer(orders: u64, row: &Listed<'_>) -> bool
+    ensures { result ≡ is_fewer orders (shown row.now) }
+{
+    row.orders < orders
+}
+
+/// The place of the first row with fewer orders than this.
+fn fewer_in(rows: &[Listed<'_>], orders: u64) -> Option<usize>
+    ensures { result ≡ position (λ row. is_fewer orders (shown row)) rows.now }
+{
+    rows.iter().position(|row| is_fewer(orders, row))
+}
+
+/// Adds the row behind those with as many orders.
+fn add_ranked<'t>(rows: &mut Vec<Listed<'t>>, row: Listed<'t>) -> Result<(), AllocError>
+    ensures { OnOk result (shown_rows rows.new.items ≡ with_ranked (shown_rows rows.old.items) (shown row.entry)) }
+{
+    match fewer_in(rows, row.orders) {
+        Some(place) => rows.insert(place, row)?,
+        None => rows.push(row)?,
+    }
+    Ok(())
+}
+
+/// These outcomes: those that more orders give come first, and of two with the same count the one that appeared first.
+pub fn ranked<'t>(alloc: Global, found: &[Listed<'t>]) -> Result<Vec<Listed<'t>>, AllocError>
+    ensures { IfOk result (λ rows. shown_rows rows.items ≡ ranked (shown_rows found.now)) }
+{
+    let mut rows = Vec::new(alloc);
+    for row in found {
+        add_ranked(&mut rows, *row)?;
+    }
+    Ok(rows)
+}
+
+/// How many orders were counted.
+fn orders_of(rows: &[Listed<'_>]) -> Result<u64, AllocError>
+    ensures { IfOk result (λ orders. orders ≡ sum_by (λ (row : Counted). row.orders) (shown_rows rows.now)) }
+{
+    let mut orders: u64 = 0;
+    for row in rows {
+        // No exploration has 2^64 orders.
+        let Some(more) = orders.checked_add(row.orders) else {
+            return Err(AllocError);
+        };
+        orders = more;
+    }
+    Ok(orders)
+}
+
+/// How many orders were run to their end, by a walk that runs at most this number.
+fn orders_in(walk: Walk, most: u64, found: &[Listed<'_>]) -> Result<u64, AllocError>
+    ensures { IfOk result (λ orders. orders ≡ orders_in walk most (shown_rows found.now)) }
+{
+    match walk {
+        Walk::All(orders) => Ok(orders),
+        Walk::Stopped => Ok(most),
+        Walk::TooDeep => orders_of(found),
+    }
+}
+
+/// The list of these outcomes, of this number of orders. The orders have from `turns.0` to `turns.1` turns.
+#[tactic(auto, using(crate::proofs::ListingLemmas::many_rows))]
+fn list_of(
+    alloc: Global,
+    walk: Walk,
+    orders: u64,
+    turns: (usize, usize),
+    found: &[Listed<'_>],
+) -> Result<String, AllocError>
+    ensures { IfOk result (λ text. string_bytes text ≡ list_text walk orders turns.0 turns.1 (shown_rows found.now)) }
+{
+    let mut text = String::new(alloc);
+    if orders == 0 {
+        text.push_str("no order was run to its end\n")?;
+        return Ok(text);
+    }
+    let rows = ranked(alloc, found)?;
+    add_first_line(&mut text, walk, orders, turns, found.len())?;
+    add_rows(&mut text, &rows)?;
+    Ok(text)
+}
+
+/// The list of the outcomes that were found by a walk that runs at most this number of orders. The orders have from
+/// `turns.0` to `turns.1` turns.
+pub fn list(
+    alloc: Global,
+    walk: Walk,
+    most: u64,
+    turns: (usize, usize),
+    found: &[Listed<'_>],
+) -> Result<String, AllocError>
+    ensures { IfOk result (λ text. string_bytes text ≡ list_text walk (orders_in walk most (shown_rows found.now)) turns.0 turns.1 (shown_rows found.now)) }
+{
+    let orders = orders_in(walk, most, found)?;
+    list_of(alloc, walk, orders, turns, found)
+}
