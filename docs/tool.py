@@ -5,6 +5,7 @@
     docs/tool.py laws             each law, in a sentence
     docs/tool.py map [CRATE]      each crate: what it does, what it uses, its source files and its lemmas
     docs/tool.py crates           the picture of the crates, which is docs/crates.svg
+    docs/tool.py chain            the crates that have to be proved one after the other, with their lines: the longest such chain
     docs/tool.py cases examples   what the examples and docs/SCRIPTS.md say that is printed, as crates/cases/data/examples.cases
     docs/tool.py cases kernel     what is printed to the scripts that Linux answers too, as crates/cases/data/kernel.cases
     docs/tool.py phrases [PAGE]   the sentences of a page, or of the comments of a NAME.rt, that docs/phrases finds, with what to write instead
@@ -42,8 +43,8 @@ SPECIFICATIONS = """
     scripts/specs/Words.antt scripts/specs/Forms.antt scripts/specs/Meaning.antt scripts/specs/Header.antt scripts/specs/Context.antt
     scripts/specs/Faults.antt scripts/specs/Script.antt scripts/specs/Work.antt scripts/specs/FaultTexts.antt
     printer/specs/Asked.antt printer/specs/Amounts.antt printer/specs/Prints.antt subcommands/specs/Scripts.antt subcommands/specs/Told.antt
-    live/specs/Exchanges.antt live/specs/Passes.antt live/specs/Works.antt live/specs/Shares.antt live/specs/Matching.antt live/specs/Reports.antt live/specs/Crews.antt live/specs/Told.antt live/specs/OneRun.antt
-    subcommands/specs/Threads.antt subcommands/specs/Actors.antt
+    live/specs/Exchanges.antt live/specs/Passes.antt live/specs/Works.antt live/specs/Shares.antt live/specs/Matching.antt live/specs/Reports.antt live/specs/Crews.antt live/specs/Told.antt live/specs/OneRun.antt live/specs/Looks.antt
+    shown_groups/specs/Shown.antt subcommands/specs/Threads.antt subcommands/specs/Actors.antt
     expectations/specs/Expected.antt
     book/specs/Looks.antt charts/specs/Watched.antt charts/specs/Phased.antt charts/specs/Listed.antt printer/specs/Paths.antt subcommands/specs/Charted.antt
     embedding/specs/Buffers.antt embedding/specs/Calls.antt
@@ -251,6 +252,43 @@ def print_map(crate=None):
             for file, says in files:
                 says = says.replace("|", "\\|")
                 print(f"| {file} | {says} |")
+
+
+def lines_in(crate):
+    """How many lines of source, definitions and proofs a crate has."""
+    files = [os.path.join(place, name) for part in ("src", "specs", "proofs") for place, _, names in os.walk(f"crates/{crate}/{part}") for name in names]
+    return sum(len(lines_of(path)) for path in files if path.endswith((".rt", ".antt")))
+
+
+def longest_chain():
+    """The crates of the chain with the most lines, lowest first, each with its lines. Each of them uses the one before."""
+    longest = {}
+    for name, uses in crates_below_first():
+        below = max((longest[other] for other in uses), key=lambda chain: sum(lines for _, lines in chain), default=())
+        longest[name] = (*below, (name, lines_in(name)))
+    return max(longest.values(), key=lambda chain: sum(lines for _, lines in chain))
+
+
+def crates_below_first():
+    """Each crate, after those that it uses, with those."""
+    uses, found = dict(crate_lines()), {}
+
+    def visit(name):
+        if name not in found:
+            for other in uses[name]:
+                visit(other)
+            found[name] = uses[name]
+
+    for name in uses:
+        visit(name)
+    return found.items()
+
+
+def print_chain():
+    chain = longest_chain()
+    for name, lines in chain:
+        print(f"{lines:7,} {name}")
+    print(f"{sum(lines for _, lines in chain):7,} lines")
 
 
 # How the picture of the crates is drawn, in pixels. Crates that are tests are left out.
@@ -828,7 +866,7 @@ def write_counts(option=None):
 
 
 # The crates whose strings a user reads.
-TELLING = ("charts", "embedding", "expectations", "explain", "machine", "memcgrun", "printer", "scenarios", "scripts", "subcommands")
+TELLING = ("charts", "command_line", "embedding", "expectations", "explain", "machine", "memcgrun", "printer", "scenarios", "scripts", "subcommands")
 
 
 def messages():
@@ -914,6 +952,7 @@ COMMANDS = {
     "laws": print_laws,
     "map": print_map,
     "crates": print_crates,
+    "chain": print_chain,
     "cases": print_cases,
     "phrases": print_phrases,
     "sample": print_sample,

@@ -27,6 +27,16 @@ struct memcgrun_proved_scenario_asked {
     bool go_on;
 };
 
+struct memcgrun_proved_explore_asked {
+    uint64_t orders;
+    uint64_t sample;
+    uint64_t seed;
+    uint64_t show;
+    uint32_t turns;
+    bool as_linux;
+    bool every;
+};
+
 /* They answer a status of memcgrun.h. */
 uint8_t memcgrun_proved_schedule(const uint8_t *script, size_t script_len, const struct memcgrun_proved_asked *asked,
                                  uint8_t *out, size_t out_len, uint8_t *err, size_t err_len,
@@ -45,20 +55,23 @@ uint8_t memcgrun_proved_expand(const uint8_t *text, size_t text_len, const uint8
                                const uint64_t *cuts, size_t cuts_len,
                                uint8_t *out, size_t out_len, uint8_t *err, size_t err_len,
                                struct memcgrun_lengths *lengths);
+uint8_t memcgrun_proved_explore(const uint8_t *script, size_t script_len, const struct memcgrun_proved_explore_asked *asked,
+                                uint8_t *out, size_t out_len, uint8_t *err, size_t err_len,
+                                struct memcgrun_lengths *lengths);
 
 /* ---- the arguments of the calls */
 
 /* The first run's room, which few runs exceed. Pages of it that are not written to cost nothing. */
-enum { OUT_ROOM = 1 << 16, OUT_ROOM_EACH = 16, SIMULATE_ROOM = 1 << 20, ERR_ROOM = 2048 };
+enum { OUT_ROOM = 1 << 16, OUT_ROOM_EACH = 16, LONG_ROOM = 1 << 20, ERR_ROOM = 2048 };
 
 /* The largest size of options that is read: a larger one is not a size. */
 enum { MOST_OPTIONS = 4096 };
 
-enum { USUAL_TURNS = 1000 };
+enum { USUAL_TURNS = 1000, USUAL_ORDERS = 100000 };
 
-enum call { SCHEDULE, CHART, CHECK, SIMULATE, EXPAND };
+enum call { SCHEDULE, CHART, CHECK, SIMULATE, EXPAND, EXPLORE };
 
-static const char *const names[] = {"schedule", "chart", "check", "simulate", "expand"};
+static const char *const names[] = {"schedule", "chart", "check", "simulate", "expand", "explore"};
 
 /* A call, with its arguments. */
 struct run {
@@ -67,6 +80,7 @@ struct run {
     size_t len;
     const struct memcgrun_options *options;
     const struct memcgrun_scenario_options *scenario_options;
+    const struct memcgrun_explore_options *explore_options;
     bool table;
 };
 
@@ -119,6 +133,7 @@ static const struct flag flags[] = {
 #define ENDS_WITH_RESERVED(options) (sizeof(options) == offsetof(options, reserved) + sizeof((options){0}.reserved))
 _Static_assert(ENDS_WITH_RESERVED(struct memcgrun_options), "a member after reserved, or padding");
 _Static_assert(ENDS_WITH_RESERVED(struct memcgrun_scenario_options), "a member after reserved, or padding");
+_Static_assert(ENDS_WITH_RESERVED(struct memcgrun_explore_options), "a member after reserved, or padding");
 
 static bool takes(enum call call, const struct flag *flag)
 {
@@ -136,6 +151,8 @@ static const struct layout script_layout = {"struct memcgrun_options", offsetof(
                                             offsetof(struct memcgrun_options, reserved)};
 static const struct layout scenario_layout = {"struct memcgrun_scenario_options", offsetof(struct memcgrun_scenario_options, reserved),
                                               offsetof(struct memcgrun_scenario_options, reserved)};
+static const struct layout explore_layout = {"struct memcgrun_explore_options", offsetof(struct memcgrun_explore_options, reserved),
+                                             offsetof(struct memcgrun_explore_options, reserved)};
 
 /* Reads the bytes that the caller's version of the options has, which begin with their number. Those that it lacks are
  * 0, their default. Those that this version lacks have to be 0. */
@@ -201,6 +218,25 @@ static bool read_scenario_options(const struct run *run, struct memcgrun_scenari
     return true;
 }
 
+static bool read_explore_options(const struct run *run, struct memcgrun_proved_explore_asked *asked, struct line *line)
+{
+    struct memcgrun_explore_options options = {0};
+    uint8_t as_linux, every;
+    if (run->explore_options && !copy_options(run->explore_options, &options, &explore_layout, line))
+        return false;
+    as_linux = ((const uint8_t *)&options)[offsetof(struct memcgrun_explore_options, as_linux)];
+    every = ((const uint8_t *)&options)[offsetof(struct memcgrun_explore_options, every)];
+    if (as_linux > 1 || every > 1)
+        return refuse(line, as_linux > 1 ? "as_linux" : "every", " is neither 0 nor 1", "");
+    if (options.seed && !options.sample)
+        return refuse(line, "seed", " is set without a sample", "");
+    if (options.orders && options.sample)
+        return refuse(line, "orders", " is set with a sample", "");
+    *asked = (struct memcgrun_proved_explore_asked){options.orders ? options.orders : USUAL_ORDERS, options.sample, options.seed,
+                                                    options.show, options.turns ? options.turns : USUAL_TURNS, as_linux, every};
+    return true;
+}
+
 /* ---- one run */
 
 /* The proved functions take no null pointer, even if the length is 0, and no length from 2^63 on. */
@@ -225,16 +261,19 @@ static const uint8_t *bytes_of(const char *text, const uint8_t *none)
     return text ? (const uint8_t *)text : none;
 }
 
-/* The options of a call, which takes one of the two structs. */
+/* The options of a call, which takes one of the structs. */
 struct asked {
     struct memcgrun_proved_asked script;
     struct memcgrun_scenario_options scenario;
+    struct memcgrun_proved_explore_asked explore;
 };
 
 static bool read_asked(const struct run *run, struct asked *asked, struct line *line)
 {
     bool is_scenario = run->call == SIMULATE || run->call == EXPAND;
-    return is_scenario ? read_scenario_options(run, &asked->scenario, line) : read_options(run, &asked->script, line);
+    return is_scenario             ? read_scenario_options(run, &asked->scenario, line)
+        : run->call == EXPLORE ? read_explore_options(run, &asked->explore, line)
+                               : read_options(run, &asked->script, line);
 }
 
 static enum memcgrun_status once(const struct run *run, uint8_t *out, size_t out_len, uint8_t *err, size_t err_len,
@@ -268,6 +307,8 @@ static enum memcgrun_status once(const struct run *run, uint8_t *out, size_t out
         return memcgrun_proved_simulate(script, len, bytes_of(scenario->settings, &nowhere[3]), length_of(scenario->settings),
                                         bytes_of(scenario->groups, &nowhere[4]), length_of(scenario->groups), &simulated,
                                         out, out_len, err, err_len, lengths);
+    case EXPLORE:
+        return memcgrun_proved_explore(script, len, &asked.explore, out, out_len, err, err_len, lengths);
     default:
         return memcgrun_proved_expand(script, len, bytes_of(scenario->settings, &nowhere[3]), length_of(scenario->settings),
                                       scenario->cuts_len ? scenario->cuts : no_cuts, bounded(scenario->cuts_len),
@@ -317,6 +358,15 @@ enum memcgrun_status memcgrun_expand_into(const uint8_t *scenario, size_t scenar
     return once(&run, out, out_len, err, err_len, lengths);
 }
 
+enum memcgrun_status memcgrun_explore_into(const uint8_t *script, size_t script_len,
+                                           const struct memcgrun_explore_options *options,
+                                           uint8_t *out, size_t out_len, uint8_t *err, size_t err_len,
+                                           struct memcgrun_lengths *lengths)
+{
+    struct run run = {.call = EXPLORE, .script = script, .len = script_len, .explore_options = options};
+    return once(&run, out, out_len, err, err_len, lengths);
+}
+
 /* ---- texts */
 
 static bool room(struct memcgrun_text *text, size_t len)
@@ -346,8 +396,8 @@ static enum memcgrun_status texts_of(const struct run *run, struct memcgrun_text
     *out = *err = (struct memcgrun_text){0};
     if (run->len < SIZE_MAX / OUT_ROOM_EACH - OUT_ROOM)
         has.out += OUT_ROOM_EACH * run->len;
-    if (run->call == SIMULATE)
-        has.out += SIMULATE_ROOM;
+    if (run->call == SIMULATE || run->call == EXPLORE)
+        has.out += LONG_ROOM;
     while (room(out, has.out) && room(err, has.err)) {
         enum memcgrun_status status = once(run, out->bytes, has.out, err->bytes, has.err, &wanted);
         if (wanted.out <= has.out && wanted.err <= has.err) {
@@ -397,5 +447,12 @@ enum memcgrun_status memcgrun_expand(const uint8_t *scenario, size_t scenario_le
                                      struct memcgrun_text *out, struct memcgrun_text *err)
 {
     struct run run = {.call = EXPAND, .script = scenario, .len = scenario_len, .scenario_options = options};
+    return texts_of(&run, out, err);
+}
+
+enum memcgrun_status memcgrun_explore(const uint8_t *script, size_t script_len, const struct memcgrun_explore_options *options,
+                                      struct memcgrun_text *out, struct memcgrun_text *err)
+{
+    struct run run = {.call = EXPLORE, .script = script, .len = script_len, .explore_options = options};
     return texts_of(&run, out, err);
 }

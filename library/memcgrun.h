@@ -25,11 +25,12 @@ const char *memcgrun_version(void);
 enum memcgrun_status {
     /* The script ran to its end. From memcgrun_check: it also answered what it expects. A command that got too little
      * memory answers NoMemory in out. From memcgrun_simulate: the scenario ran to its end, each of its expectations was
-     * met, and no line was refused unexpectedly. */
+     * met, and no line was refused unexpectedly. From memcgrun_explore: all orders were run, or all of the sample. */
     MEMCGRUN_OK = 0,
     /* Nothing ran: a line of the script or scenario is faulty, or it is longer than 64 MiB. err names the first faulty
      * line and its fault. From memcgrun_simulate: the scenario may have run up to the line, if the fault is the size of a
-     * page that a list with until left open. */
+     * page that a list with until left open. From memcgrun_explore: the script may also have no work or too many actors,
+     * or a line of its setup failed. */
     MEMCGRUN_BAD_SCRIPT = 1,
     /* There was too little memory. out has the beginning of the answers, or nothing. err may have the beginning of a
      * line that says what the memory was for. */
@@ -39,10 +40,11 @@ enum memcgrun_status {
     MEMCGRUN_REFUSED = 3,
     /* From memcgrun_check: the script ran, and its answers differ from those that it expects. out names the first
      * difference. From memcgrun_simulate: the scenario ran, and a line was refused or an expectation was not met. out
-     * says which. */
+     * says which. From memcgrun_explore: not all orders were run. out has the outcomes of those that were, and err says
+     * which limit ended it. */
     MEMCGRUN_DIFFERS = 4,
     /* Nothing ran: the options are not valid, or the call does not take one of them, or they name nothing in the
-     * scenario. err says which. */
+     * scenario. From memcgrun_explore: there may be no outcome of the number in show. err says which. */
     MEMCGRUN_BAD_OPTIONS = 5
 };
 
@@ -148,6 +150,34 @@ enum memcgrun_status memcgrun_simulate(const uint8_t *scenario, size_t scenario_
 enum memcgrun_status memcgrun_expand(const uint8_t *scenario, size_t scenario_len, const struct memcgrun_scenario_options *options,
                                      struct memcgrun_text *out, struct memcgrun_text *err);
 
+/* ---- Every order
+ *
+ * What can happen if a script's commands run at the same time. docs/EXPLORE.md says how such a script is written. */
+
+/* What a caller may ask for. Every default is 0, and size says which version of this header the program was compiled
+ * with, as in struct memcgrun_options. */
+struct memcgrun_explore_options {
+    size_t size;
+    uint64_t orders;      /* the most orders that are run (--orders); 0 means 100,000 */
+    uint64_t sample;      /* run this number of orders, drawn at random (--sample); 0 means all orders */
+    uint64_t seed;        /* the same seed draws the same sample (--seed) */
+    uint64_t show;        /* give the first order with the outcome of this number as a script (--show); 0: list them */
+    uint32_t turns;       /* the most turns of an order (--turns); 0 means 1,000 */
+    bool as_linux;        /* place pages that are read in as Linux does, instead of by memcgrun's own rule (--as-linux) */
+    bool every;           /* run also the orders in which other turns come before a call of the device (--every) */
+    uint8_t reserved[10]; /* 0 */
+};
+
+#define MEMCGRUN_EXPLORE_OPTIONS_INIT \
+    {sizeof(struct memcgrun_explore_options), 0, 0, 0, 0, 0, false, false, {0, 0, 0, 0, 0, 0, 0, 0, 0, 0}}
+
+/* Runs a script's work in the orders of its turns in which calls of the device come first, in every order, or in those
+ * of a sample, as `memcgrun explore` does. Every order has an outcome of one with calls of the device first. out gets
+ * the outcomes, each with the number of its orders. With show it gets a script for memcgrun_schedule, which expects its
+ * answers. err gets a line if the status is not MEMCGRUN_OK. A run may take long: 100,000 orders take some seconds. */
+enum memcgrun_status memcgrun_explore(const uint8_t *script, size_t script_len, const struct memcgrun_explore_options *options,
+                                      struct memcgrun_text *out, struct memcgrun_text *err);
+
 /* ---- The same calls into buffers of the caller */
 
 /* The numbers of bytes of both texts. A buffer may have taken only the first of these bytes. */
@@ -179,6 +209,10 @@ enum memcgrun_status memcgrun_expand_into(const uint8_t *scenario, size_t scenar
                                           const struct memcgrun_scenario_options *options,
                                           uint8_t *out, size_t out_len, uint8_t *err, size_t err_len,
                                           struct memcgrun_lengths *lengths);
+enum memcgrun_status memcgrun_explore_into(const uint8_t *script, size_t script_len,
+                                           const struct memcgrun_explore_options *options,
+                                           uint8_t *out, size_t out_len, uint8_t *err, size_t err_len,
+                                           struct memcgrun_lengths *lengths);
 
 #ifdef __cplusplus
 }

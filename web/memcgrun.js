@@ -40,6 +40,13 @@ class Memcgrun {
     return this.#call('page_expand', scenario, (put) => [put(linesOf(settings)), put(new Uint8Array(lengths.buffer)), BigInt(lengths.length)]);
   }
 
+  // What `memcgrun explore` prints of a script, in the same form: all that can happen in its work. orders, sample, seed,
+  // show and turns are numbers. asLinux and every are true or false.
+  explore(script, { orders = 0, sample = 0, seed = 0, show = 0, turns = 0, ...asked } = {}) {
+    const flags = flagsOf(asked, { asLinux: 1, every: 2 });
+    return this.#call('page_explore', script, () => [...[orders, sample, seed, show].map(BigInt), turns, flags]);
+  }
+
   // A call of module.c. more gives its arguments between the text and the place of the answers. It is passed what puts
   // bytes into the module's memory and returns their place.
   #call(call, text, more) {

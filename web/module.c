@@ -5,6 +5,7 @@
 /* The bits of flags, as memcgrun.js sets them. */
 enum { LABELS = 1, STRICT = 2, AS_LINUX = 4, EXPLAIN = 8, QUIET = 16, SUMMARY = 32 };
 enum { GO_ON = 1 };
+enum { EXPLORE_AS_LINUX = 1, EVERY = 2 };
 
 static struct memcgrun_options options_of(uint32_t turns, uint32_t flags)
 {
@@ -52,4 +53,18 @@ int page_expand(const uint8_t *scenario, size_t len, const char *settings, const
     options.cuts = cuts;
     options.cuts_len = cuts_len;
     return (int)memcgrun_expand(scenario, len, &options, &texts[0], &texts[1]);
+}
+
+int page_explore(const uint8_t *script, size_t len, uint64_t orders, uint64_t sample, uint64_t seed, uint64_t show,
+                 uint32_t turns, uint32_t flags, struct memcgrun_text texts[2])
+{
+    struct memcgrun_explore_options options = MEMCGRUN_EXPLORE_OPTIONS_INIT;
+    options.orders = orders;
+    options.sample = sample;
+    options.seed = seed;
+    options.show = show;
+    options.turns = turns;
+    options.as_linux = flags & EXPLORE_AS_LINUX;
+    options.every = flags & EVERY;
+    return (int)memcgrun_explore(script, len, &options, &texts[0], &texts[1]);
 }

@@ -104,18 +104,19 @@ function showNothing(said, err) {
 // The last run. A run that is no longer the last shows nothing.
 let last = null;
 
-async function runOnce(kind, text) {
+// Makes the call `answer` and, if there is one, the call `draw`. Each is a name with its options.
+async function runOnce(text, answer, draw, show) {
   const mine = {};
   last = mine;
   const start = performance.now();
   const took = () => performance.now() - start;
   const soon = setTimeout(() => { part('said').textContent = 'running …'; }, SOON);
   try {
-    const drawn = machines.draw.call(text, KINDS[kind].draw()).catch(() => null);
-    const answer = await machines.answer.call(text, KINDS[kind].answer());
+    const drawn = draw && machines.draw.call(text, draw).catch(() => null);
+    const answered = await machines.answer.call(text, answer);
     clearTimeout(soon);
     if (last !== mine) return;
-    if (answer) showAnswer(kind, answer, took());
+    if (answered) show(answered, took());
     else showNothing(`stopped after ${(took() / 1000).toFixed(1)} s`, '');
     const picture = await drawn;
     if (last === mine) showChart(picture);
@@ -132,10 +133,55 @@ function setBusy(isBusy) {
   part('stop').disabled = !isBusy;
 }
 
-function run() {
+function begin(text, answer, draw, show) {
   if (!machines) return;
   setBusy(true);
-  runOnce(kindNow(), part('text').value);
+  runOnce(text, answer, draw, show);
+}
+
+function run() {
+  const kind = kindNow();
+  begin(part('text').value, KINDS[kind].answer(), KINDS[kind].draw(), (answer, took) => showAnswer(kind, answer, took));
+}
+
+// ---- all that can happen
+
+// The line after which the actors of a script work at the same time.
+const GO = /^[ \t]*go[ \t]*$/m;
+
+function offerToExplore() {
+  part('explore').hidden = kindNow() !== 'script' || !GO.test(part('text').value);
+}
+
+// The script that was explored last, and how.
+let explored = null;
+
+function showExplored({ status, out, err }, took) {
+  const ended = { [Memcgrun.STATUS.OK]: 'all orders', [Memcgrun.STATUS.DIFFERS]: 'not all orders' }[status];
+  const place = placeIn(err);
+  showOutcomes(out);
+  showMessages(err);
+  part('said').textContent = `${ended || 'stopped'}, ${took.toFixed(1)} ms`;
+  if (!ended && place) goTo(place.line, place.column);
+}
+
+function explore() {
+  explored = { text: part('text').value, asked: { asLinux: isChecked('as_linux') } };
+  begin(explored.text, ['explore', explored.asked], null, showExplored);
+}
+
+// Puts an order with this outcome into the editor, as a script that expects its answers, and runs it.
+function showOrder(number) {
+  begin(explored.text, ['explore', { ...explored.asked, show: number }], null, ({ out }) => {
+    choose('script', out, '');
+    part('back').hidden = false;
+    run();
+  });
+}
+
+function goBack() {
+  choose('script', explored.text, '');
+  explore();
 }
 
 function stop() {
@@ -178,6 +224,8 @@ function choose(kind, text, named) {
   for (const options of document.querySelectorAll('[data-kind]')) options.hidden = options.dataset.kind !== kind;
   setText(text);
   part('example').value = named;
+  part('back').hidden = true;
+  offerToExplore();
 }
 
 // Shows the text of this kind that was shown before, or an example.
@@ -224,10 +272,13 @@ async function moduleOf() {
 }
 
 function listExamples() {
-  for (const kind of Object.keys(KINDS)) {
+  const groups = [...Object.entries(KINDS).map(([kind, { name }]) => [`${name}s`, kind, false]), ['What can happen', 'script', true]];
+  for (const [label, kind, isRace] of groups) {
     const group = document.createElement('optgroup');
-    group.label = `${KINDS[kind].name}s`;
-    for (const example of examples.filter((each) => each.kind === kind)) group.append(new Option(`${example.name}: ${example.says}`, nameOf(example)));
+    group.label = label;
+    for (const example of examples.filter((each) => each.kind === kind && each.isRace === isRace)) {
+      group.append(new Option(`${example.name}: ${example.says}`, nameOf(example)));
+    }
     part('example').append(group);
   }
 }
@@ -244,15 +295,21 @@ function chooseExample() {
   choose(example.kind, example.text, nameOf(example));
   remember(example.kind);
   history.replaceState(null, '', location.pathname + location.search);
-  run();
+  if (example.isRace) explore();
+  else run();
 }
 
 function listen() {
   part('run').addEventListener('click', run);
+  part('explore').addEventListener('click', explore);
+  part('back').addEventListener('click', goBack);
   part('stop').addEventListener('click', stop);
   part('link').addEventListener('click', copyLink);
   part('example').addEventListener('change', chooseExample);
-  part('text').addEventListener('input', () => { part('example').value = ''; });
+  part('text').addEventListener('input', () => {
+    part('example').value = '';
+    offerToExplore();
+  });
   part('text').addEventListener('keydown', (event) => { if (event.key === 'Enter' && (event.ctrlKey || event.metaKey)) run(); });
   part('kinds').addEventListener('change', () => {
     change(kindNow());
@@ -280,6 +337,7 @@ async function start() {
     return;
   }
   part('run').disabled = false;
+  part('explore').disabled = false;
   run();
 }
 

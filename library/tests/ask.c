@@ -1,5 +1,5 @@
-/* ask CALL FILE: one call of the library. CALL is schedule, chart, table, check, simulate or expand, followed by options, as in
- * schedule,--strict,--labels or simulate,--json,--set=a=1+b=2. What it gives goes to standard output and standard error, and its status is
+/* ask CALL FILE: one call of the library. CALL is schedule, chart, table, check, simulate, expand or explore, followed by options, as in
+ * schedule,--strict,--labels, simulate,--json,--set=a=1+b=2 or explore,--sample=9. What it gives goes to standard output and standard error, and its status is
  * the exit status.
  *
  * ask threads FILE makes the call schedule on several threads at once, many times, and each has to give the same.
@@ -101,16 +101,31 @@ static void read_scenario(const char *call, struct scenario *it)
     }
 }
 
+static struct memcgrun_explore_options explore_options_of(const char *call)
+{
+    struct memcgrun_explore_options options = MEMCGRUN_EXPLORE_OPTIONS_INIT;
+    options.orders = number_of(call, ",--orders=");
+    options.sample = number_of(call, ",--sample=");
+    options.seed = number_of(call, ",--seed=");
+    options.show = number_of(call, ",--show=");
+    options.turns = number_of(call, ",--turns=");
+    options.as_linux = has(call, ",--as-linux");
+    options.every = has(call, ",--every");
+    return options;
+}
+
 /* The call, with texts that end in a 0. */
 static int ask(const char *call, const uint8_t *script, size_t len, struct memcgrun_text *out, struct memcgrun_text *err)
 {
     struct memcgrun_options options = options_of(call);
+    struct memcgrun_explore_options explored = explore_options_of(call);
     struct scenario scenario;
     bool table = begins(call, "table");
     int status;
     read_scenario(call, &scenario);
     status = begins(call, "simulate")    ? memcgrun_simulate(script, len, &scenario.options, out, err)
         : begins(call, "expand")         ? memcgrun_expand(script, len, &scenario.options, out, err)
+        : begins(call, "explore")        ? memcgrun_explore(script, len, &explored, out, err)
         : begins(call, "check")          ? memcgrun_check(script, len, &options, out, err)
         : table || begins(call, "chart") ? memcgrun_chart(script, len, &options, table, out, err)
                                          : memcgrun_schedule(script, len, &options, out, err);
@@ -155,6 +170,7 @@ static void front(const char *call, const uint8_t *script, size_t len, size_t ro
     enum { BEHIND = 8, MARK = 0xa5 };
     uint8_t *out = malloc(room + BEHIND), *err = malloc(room + BEHIND);
     struct memcgrun_options options = options_of(call);
+    struct memcgrun_explore_options explored = explore_options_of(call);
     struct scenario scenario;
     struct memcgrun_lengths lengths;
     size_t out_len, err_len;
@@ -166,6 +182,7 @@ static void front(const char *call, const uint8_t *script, size_t len, size_t ro
     memset(err, MARK, room + BEHIND);
     status = begins(call, "simulate") ? memcgrun_simulate_into(script, len, &scenario.options, out, room, err, room, &lengths)
         : begins(call, "expand")      ? memcgrun_expand_into(script, len, &scenario.options, out, room, err, room, &lengths)
+        : begins(call, "explore")     ? memcgrun_explore_into(script, len, &explored, out, room, err, room, &lengths)
                                       : memcgrun_schedule_into(script, len, &options, out, room, err, room, &lengths);
     out_len = lengths.out < room ? lengths.out : room;
     err_len = lengths.err < room ? lengths.err : room;

@@ -54,7 +54,7 @@ void *__wrap_realloc(void *p, size_t n)
 
 /* ---- calls */
 
-enum kind { SCHEDULE, PICTURE, TABLE, CHECKED, SIMULATED, EXPANDED };
+enum kind { SCHEDULE, PICTURE, TABLE, CHECKED, SIMULATED, EXPANDED, EXPLORED };
 
 struct answer {
     enum memcgrun_status status;
@@ -69,6 +69,7 @@ static struct answer bytes_ask(enum kind kind, const uint8_t *script, size_t len
         : kind == CHECKED            ? memcgrun_check(script, len, options, &answer.out, &answer.err)
         : kind == SIMULATED          ? memcgrun_simulate(script, len, options, &answer.out, &answer.err)
         : kind == EXPANDED           ? memcgrun_expand(script, len, options, &answer.out, &answer.err)
+        : kind == EXPLORED           ? memcgrun_explore(script, len, options, &answer.out, &answer.err)
                                      : memcgrun_chart(script, len, options, kind == TABLE, &answer.out, &answer.err);
     return answer;
 }
@@ -182,10 +183,10 @@ static void check_statuses(void)
     if (!script)
         exit(70);
     memset(script, '#', longest + 1);
-    for (enum kind kind = SCHEDULE; kind <= EXPANDED; kind++) {
+    for (enum kind kind = SCHEDULE; kind <= EXPLORED; kind++) {
         answer = bytes_ask(kind, script, longest + 1, NULL);
         CHECK(answer.status == MEMCGRUN_BAD_SCRIPT && answer.out.len == 0);
-        CHECK(is(&answer.err, kind == CHECKED ? "script: the script has more than 64 MiB\n" : "the script has more than 64 MiB\n"));
+        CHECK(is(&answer.err, kind == CHECKED || kind == EXPLORED ? "script: the script has more than 64 MiB\n" : "the script has more than 64 MiB\n"));
         free_both(&answer);
     }
     answer = bytes_ask(SCHEDULE, script, longest, NULL);
@@ -403,6 +404,111 @@ static void check_scenario_taken(void)
     EXPECT(SIMULATED, grows, &options, MEMCGRUN_BAD_OPTIONS, "", "options: simulate does not take cuts\n");
 }
 
+/* ---- every order */
+
+static const char three[] = "group /a\nset /a memory.max 8192\ntask 1 /a\ntask 2 /a\ntask 3 /a\ngo\n1 write 0 0 1\n2 write 0 0 2\n3 write 0 0 3\n"
+                            "go\ncat /a memory.current\n";
+static const char six[] = "6 orders (device calls first), of 5 turns, have 2 outcomes\noutcome 1: 4 orders\nkilled 1\n8192\noutcome 2: 2 orders\nkilled 2\n8192\n";
+static const char all_six[] = "6 orders, of 5 turns, have 2 outcomes\noutcome 1: 4 orders\nkilled 1\n8192\noutcome 2: 2 orders\nkilled 2\n8192\n";
+
+static void check_explored(void)
+{
+    struct memcgrun_explore_options usual = MEMCGRUN_EXPLORE_OPTIONS_INIT, options = usual, zeroed = {.size = sizeof zeroed};
+    struct answer answer, again;
+    EXPECT(EXPLORED, three, NULL, MEMCGRUN_OK, six, "");
+    EXPECT(EXPLORED, three, &usual, MEMCGRUN_OK, six, "");
+    EXPECT(EXPLORED, three, &zeroed, MEMCGRUN_OK, six, "");
+    options.as_linux = true;
+    EXPECT(EXPLORED, three, &options, MEMCGRUN_OK, six, "");
+    options = usual;
+    options.every = true;
+    EXPECT(EXPLORED, three, &options, MEMCGRUN_OK, all_six, "");
+    options = usual;
+    options.orders = 6;
+    EXPECT(EXPLORED, three, &options, MEMCGRUN_OK, six, "");
+    options.orders = 5;
+    answer = ask(EXPLORED, three, &options);
+    CHECK(answer.status == MEMCGRUN_DIFFERS && has(&answer.out, "not all: 5 orders (device calls first), of 5 turns, have "));
+    CHECK(is(&answer.err, "script: more than 5 orders: not all were run\n"));
+    free_both(&answer);
+    options = usual;
+    options.turns = 4;
+    EXPECT(EXPLORED, three, &options, MEMCGRUN_DIFFERS, "no order was run to its end\n", "script: an order has more than 4 turns: not all were run\n");
+    /* An outcome as a script, which the checker accepts. */
+    options = usual;
+    options.show = 2;
+    answer = ask(EXPLORED, three, &options);
+    CHECK(answer.status == MEMCGRUN_OK && has(&answer.out, "#> killed 2\n") && answer.err.len == 0);
+    again = ask(CHECKED, (const char *)answer.out.bytes, NULL);
+    CHECK(again.status == MEMCGRUN_OK);
+    free_both(&answer);
+    free_both(&again);
+    options.show = 3;
+    EXPECT(EXPLORED, three, &options, MEMCGRUN_BAD_OPTIONS, "", "script: no outcome 3: there are 2\n");
+    /* A sample: the same seed draws the same orders. */
+    options = usual;
+    options.sample = 1000;
+    options.seed = 7;
+    answer = ask(EXPLORED, three, &options);
+    again = ask(EXPLORED, three, &options);
+    CHECK(answer.status == MEMCGRUN_OK && same(&answer, &again) && answer.err.len == 0);
+    CHECK(has(&answer.out, "a sample of 1000 orders (device calls first), of 5 turns, shows 2 outcomes; there may be others\noutcome 1: "));
+    free_both(&answer);
+    free_both(&again);
+    options.sample = 1;
+    answer = ask(EXPLORED, three, &options);
+    CHECK(answer.status == MEMCGRUN_OK && has(&answer.out, "a sample of 1 order (device calls first), of 5 turns, shows 1 outcome; there may be others\noutcome 1: 1 order\n"));
+    free_both(&answer);
+    /* Scripts that can't be explored. */
+    EXPECT(EXPLORED, faulty, NULL, MEMCGRUN_BAD_SCRIPT, "", "script: line 2: missing argument\n");
+    EXPECT(EXPLORED, "group /a\n", NULL, MEMCGRUN_BAD_SCRIPT, "",
+           "script: the script has no work: write the lines whose orders are to be explored after `go`\n");
+    EXPECT(EXPLORED, "rmdir /a\ngo\nrmdir /\n", NULL, MEMCGRUN_BAD_SCRIPT, "", "script: line 1: the setup fails: error ENOENT\n");
+    EXPECT(EXPLORED, "go\nbegin rmdir /\n", NULL, MEMCGRUN_BAD_SCRIPT, "",
+           "script: line 2: `begin`, `step` and `finish` are only for the setup, before the first `go`\n");
+}
+
+/* Options of an exploration of a program that was compiled with another version of the header. */
+union explore_versioned {
+    struct memcgrun_explore_options options;
+    uint8_t bytes[8192];
+};
+
+static void check_explore_options(void)
+{
+    static const char not_a_size[] = "options: size is not sizeof(struct memcgrun_explore_options)\n";
+    static const char newer[] = "options: a member is set that version " MEMCGRUN_VERSION " does not have\n";
+    static const size_t least = offsetof(struct memcgrun_explore_options, reserved);
+    static union explore_versioned given;
+    struct memcgrun_explore_options usual = MEMCGRUN_EXPLORE_OPTIONS_INIT;
+    for (size_t size = 0; size <= 4097; size += size < 80 ? 1 : 4017) {
+        memset(&given, 0, sizeof given);
+        given.options = usual;
+        given.options.size = size;
+        if (size < least || size > 4096)
+            EXPECT(EXPLORED, three, &given, MEMCGRUN_BAD_OPTIONS, "", not_a_size);
+        else
+            EXPECT(EXPLORED, three, &given, MEMCGRUN_OK, six, "");
+    }
+    for (size_t at = least; at < sizeof usual; at++) {
+        memset(&given, 0, sizeof given);
+        given.options = usual;
+        given.bytes[at] = 1;
+        EXPECT(EXPLORED, three, &given, MEMCGRUN_BAD_OPTIONS, "", newer);
+    }
+    given.options = usual;
+    given.bytes[offsetof(struct memcgrun_explore_options, as_linux)] = 2;
+    EXPECT(EXPLORED, three, &given, MEMCGRUN_BAD_OPTIONS, "", "options: as_linux is neither 0 nor 1\n");
+    given.options = usual;
+    given.bytes[offsetof(struct memcgrun_explore_options, every)] = 2;
+    EXPECT(EXPLORED, three, &given, MEMCGRUN_BAD_OPTIONS, "", "options: every is neither 0 nor 1\n");
+    given.options = usual;
+    given.options.seed = 1;
+    EXPECT(EXPLORED, three, &given, MEMCGRUN_BAD_OPTIONS, "", "options: seed is set without a sample\n");
+    given.options.sample = given.options.orders = 1;
+    EXPECT(EXPLORED, three, &given, MEMCGRUN_BAD_OPTIONS, "", "options: orders is set with a sample\n");
+}
+
 /* ---- buffers */
 
 static void check_buffers(void)
@@ -427,6 +533,10 @@ static void check_buffers(void)
     CHECK(!memcmp(out, "# pa", 4) && !memcmp(err, "opt.", 4));
     CHECK(memcgrun_expand_into(script, strlen(grows) - 4, NULL, out, 4, err, 2, &lengths) == MEMCGRUN_BAD_SCRIPT && !lengths.out);
     CHECK(!memcmp(out, "# pa", 4) && !memcmp(err, "sct.", 4));
+    script = (const uint8_t *)three;
+    CHECK(memcgrun_explore_into(NULL, 0, NULL, NULL, 0, NULL, 0, &lengths) == MEMCGRUN_BAD_SCRIPT && !lengths.out && lengths.err);
+    CHECK(memcgrun_explore_into(script, strlen(three), NULL, out, 3, err, 4, &lengths) == MEMCGRUN_OK && lengths.out == strlen(six));
+    CHECK(!memcmp(out, "6 oa", 4) && !memcmp(err, "sct.", 4));
 }
 
 /* ---- each allocation fails in turn */
@@ -485,7 +595,9 @@ static void check_memory(void)
     static const char bad[] = "frames 4\ngroup /a\nset /a memory.max\n";
     static const char short_scenario[] = "memory 8p\nlet size 2p\ngroup /a max 3p\ntask x in /a\nx write {size}\nshow\nexpect killed x\n";
     struct memcgrun_options options = MEMCGRUN_OPTIONS_INIT;
+    static const char short_race[] = "frames 4\ntrace 64\ngroup /a\ntask 1 /a\ntask 2 /a\ngo\n1 write 0 0 1\n2 exit\ngo\ncat /a memory.current\n";
     struct memcgrun_scenario_options set = MEMCGRUN_SCENARIO_OPTIONS_INIT;
+    struct memcgrun_explore_options shown = MEMCGRUN_EXPLORE_OPTIONS_INIT, sampled = shown;
     check_failing(SCHEDULE, small, NULL);
     check_failing(SCHEDULE, bad, NULL);
     check_failing(TABLE, small, NULL);
@@ -501,6 +613,12 @@ static void check_memory(void)
     check_failing(SIMULATED, short_scenario, &set);
     check_failing(SIMULATED, "group /a\ngroup /a\n", NULL);
     check_failing(EXPANDED, short_scenario, &set);
+    check_failing(EXPLORED, short_race, NULL);
+    check_failing(EXPLORED, "go\nbegin rmdir /\n", NULL);
+    shown.show = 1;
+    check_failing(EXPLORED, short_race, &shown);
+    sampled.sample = 2;
+    check_failing(EXPLORED, short_race, &sampled);
 }
 
 int main(void)
@@ -513,6 +631,8 @@ int main(void)
     check_scenarios();
     check_scenario_versions();
     check_scenario_taken();
+    check_explored();
+    check_explore_options();
     check_buffers();
     check_memory();
     return failed;

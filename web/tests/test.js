@@ -201,6 +201,50 @@ async function tryScripts(examples) {
   await set('explain', false);
 }
 
+// A script with `go` offers to run every order. An outcome leads to an order of its own, and there is a way back.
+async function tryRaces(examples) {
+  const race = examples.find((each) => each.isRace && each.name === 'three_at_a_limit');
+  await run('group /a\n');
+  same('nothing to explore', part('explore').hidden, true);
+  await choose('script/three_at_a_limit');
+  same('something to explore', part('explore').hidden, false);
+  same('what can happen', text('out').split('\n')[0], '6 orders (device calls first), of 5 turns, have 2 outcomes');
+  same('its title', text('title'), 'What can happen');
+  same('how it ended', text('said').split(',')[0], 'all orders');
+  same('no picture of many orders', picture(), null);
+  const outcomes = [...part('out').querySelectorAll('[data-outcome]')];
+  same('links to outcomes', outcomes.map((link) => link.textContent).join(''), 'outcome 1: 4 orders\noutcome 2: 2 orders\n');
+  outcomes[1].click();
+  await until('an order', () => part('text').value.includes('#> killed 2\n'));
+  await ended();
+  same('the answers of the order', text('title') + text('out').includes('killed 2'), 'Answerstrue');
+  await drawn();
+  part('back').click();
+  await ended();
+  same('back at the script', part('text').value, race.text);
+  same('back at its outcomes', text('out').split('\n')[0], '6 orders (device calls first), of 5 turns, have 2 outcomes');
+  same('nothing to go back to', part('back').hidden, true);
+  part('run').click();
+  await ended();
+  same('the same script as a schedule', text('title'), 'Answers');
+
+  // An exploration that takes long can be stopped too.
+  type(examples.find((each) => each.isRace && each.name === 'max_lowered_and_a_writer').text);
+  part('explore').click();
+  await pause(200);
+  same('what a long exploration shows', text('said'), 'running …');
+  part('stop').click();
+  await ended();
+  same('how it is stopped', /^stopped after \d+\.\d s$/.test(text('said')), true);
+
+  // A script that can't be explored says why.
+  await run('group /a\nrmdir /b\ngo\nrmdir /a\n');
+  part('explore').click();
+  await ended();
+  same('why not', text('err'), 'script: line 2: the setup fails: error ENOENT\n');
+  same('the line that fails', selected(), 'rmdir /b');
+}
+
 // A link carries the text and its kind to another page. A link without a kind carries a script.
 async function tryLinks() {
   const script = '# ü#%&\ngroup /b\ntask 1 /b\n1 write 0 0 9\n1 read 0 0\n';
@@ -237,6 +281,7 @@ async function tryPage(examples) {
   await tryScenarios(examples);
   await tryStop();
   await tryScripts(examples);
+  await tryRaces(examples);
   await tryLinks();
   await tryRemembered();
 }

@@ -1,13 +1,14 @@
 -- What a look at a book shows, which is no event.
 use Rattle.std.specs.Prelude.{◌≡◌, ℕ, ◌<◌, ◌==◌, ◌&&◌, not, Bool, true, false, List, length, count_by, Option, Some, None, option_map}
 use Rattle.std.specs.List.{range_with_len}
+use Rattle.machine.specs.declared.record.EventCounts.{EventCounts}
 use Rattle.machine.specs.declared.record.MemoryStat.{MemoryStat}
 use Rattle.machine.specs.Tree.{Node, find_group}
 use Rattle.machine.specs.Tasks.{Tasks, PageTables, mapped_at, size_of}
 use Rattle.machine.specs.Slots.{there_and, count_there}
 use Rattle.machine.specs.Pages.{Pages, page_at, ticket_at, is_number}
 use Rattle.machine.specs.Victim.{is_candidate, is_live_under}
-use Rattle.machine.specs.Counts.{limits_at, counts_by, local}
+use Rattle.machine.specs.Counts.{limits_at, counts_by, local, total}
 use Rattle.machine.specs.State.{State, usage, stat_of}
 use Rattle.machine.specs.Generations.{gens_at}
 use Rattle.machine.specs.Lists.{Order, kind_at}
@@ -27,6 +28,10 @@ look_at s path = option_map (group_look s) (find_group s.tree path)
 -- what its pages are
 abbrev pub stat_at : State → List ℕ → Option MemoryStat
 stat_at s path = option_map (stat_of s) (find_group s.tree path)
+
+-- its counts, with those of all groups below it. (Excludes the counts of the group alone.)
+abbrev pub events_at : State → List ℕ → Option EventCounts
+events_at s path = option_map (λ g. counts_by (total s.tree s.counted g)) (find_group s.tree path)
 
 -- the number of its youngest generation, which rises by one with each aging
 abbrev pub max_seq_at : State → Order → List ℕ → Option ℕ

@@ -3,9 +3,9 @@
 ghost use Rattle.std.specs.Prelude.{◌≡◌, ℕ, ◌+◌, ◌<◌, length, option_map, IfSome, true};
 ghost use Rattle.machine.specs.Pages.{used_frames, used_swap, in_transfer};
 ghost use Rattle.machine.specs.Reclaim.{target_of};
-ghost use Rattle.machine.specs.Tasks.{size_of};
+ghost use Rattle.machine.specs.Tasks.{group_of_task, size_of};
 ghost use Rattle.machine.specs.Victim.{IsVictims};
-ghost use Rattle.book.specs.Looks.{look_at, stat_at, max_seq_at, candidates, is_as_large, count_as_large, IsNextAsLarge, dying_of, shows, IsFirstIn, IsFirstMapping, IsPageLook};
+ghost use Rattle.book.specs.Looks.{look_at, stat_at, events_at, max_seq_at, candidates, is_as_large, count_as_large, IsNextAsLarge, dying_of, shows, IsFirstIn, IsFirstMapping, IsPageLook};
 
 use crate::book::Book;
 use crate::decide::target_of;
@@ -41,6 +41,8 @@ pub struct GroupLook {
 #[derive(Clone, Copy)]
 pub struct Victim {
     pub task: TaskId,
+    /// The group that the task is in.
+    pub home: GroupId,
     /// How many of its virtual pages map a page.
     pub pages: usize,
     /// How many tasks are live at or below the group under which room is needed, including the victim.
@@ -235,6 +237,15 @@ impl Book {
         Some(self.state.stat(group))
     }
 
+    /// The counts of the group that has this path now, with those of all groups below it, removed ones included
+    /// (`memory.events`).
+    pub fn events(&self, path: &str) -> Option<EventCounts>
+        ensures { result ≡ events_at self.now.state path.now }
+    {
+        let group = self.state.tree().find(path)?;
+        Some(self.state.events(group))
+    }
+
     /// The number of the youngest generation of the group that has this path now (kernel: `lrugen.max_seq`). It begins
     /// at 3 and rises by one with each aging. `None` if no group has this path.
     pub fn max_seq(&self, path: &str) -> Option<u64>
@@ -249,6 +260,7 @@ impl Book {
     /// task numbers.
     pub fn victim(&self, cause: Cause) -> Option<Victim>
         ensures who { IsVictims self.now.state.tree self.now.state.flags self.now.state.tasks self.now.state.page_tables (target_of cause) (option_map dying_of result) }
+        ensures home { IfSome result (λ v. v.home.0 ≡ group_of_task self.now.state.tasks v.task.0) }
         ensures pages { IfSome result (λ v. v.pages ≡ size_of self.now.state.page_tables v.task.0) }
         ensures tasks { IfSome result (λ v. v.tasks ≡ candidates self.now.state.tree self.now.state.tasks (target_of cause)) }
         ensures as_large { IfSome result (λ v. v.as_large ≡ count_as_large self.now.state.tree self.now.state.tasks self.now.state.page_tables (target_of cause) v.task.0) }
@@ -262,8 +274,12 @@ impl Book {
             self.state.flags(),
             limit,
         )?;
+        let Some(task) = self.state.spaces().task(chosen.victim) else {
+            unreachable!()
+        };
         Some(Victim {
             task: chosen.victim,
+            home: task.group,
             pages: self.state.spaces().size(chosen.victim),
             tasks: candidates(&self.state, limit),
             as_large: count_as_large(self.state.tree(), self.state.spaces(), limit, chosen.victim),

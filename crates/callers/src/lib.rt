@@ -29,16 +29,10 @@ mod on_threads;
 #[cfg(test)]
 mod opened;
 #[cfg(test)]
-mod other_bytes;
-#[cfg(test)]
-mod printed;
-#[cfg(test)]
 mod shared;
 #[cfg(test)]
 mod stepped;
 #[cfg(test)]
 mod tasks;
-#[cfg(test)]
-mod threads;
 #[cfg(test)]
 mod words;

@@ -1,13 +1,12 @@
-//! A caller of `scripts`, and of `explain`: what a script asks of threads.
+//! A caller of `scripts`: what a script asks of threads.
 
 ghost use Rattle.std.specs.Prelude.{◌≡◌, [], IfSome};
 ghost use Rattle.std.specs.Str.Lines.{lines};
 ghost use Rattle.scripts.specs.Script.{items_of};
 ghost use Rattle.scripts.specs.Work.{setup_of, worked, work_of, shown_rows};
 
-use explain::explain;
 use machine::command::{Actor, Command};
-use scripts::{Cause, Mode, Script, ScriptFault, read};
+use scripts::{Mode, Script, read};
 use std::alloc::{AllocError, Global};
 use std::test::Fail;
 
@@ -104,85 +103,5 @@ fn rows_rise_by_number(rt: HostRuntime) -> Result<(), Fail> {
             assert!(rt; matches!(command, Command::Free { page } if *page as usize == at));
         }
     }
-    Ok(())
-}
-
-fn cause_of(alloc: Global, line: &str, mode: Mode) -> Option<Cause> {
-    match read(alloc, line.as_bytes(), mode) {
-        Err(ScriptFault::At { cause, .. }) => Some(cause),
-        Err(ScriptFault::Memory) | Ok(_) => None,
-    }
-}
-
-#[test]
-fn what_a_schedule_alone_has_is_refused(rt: HostRuntime) {
-    for line in [
-        "begin 1 exit",
-        "begin group /a",
-        "begin daemon",
-        "step 1",
-        "finish shell",
-        "daemon",
-    ] {
-        assert_eq!(rt;
-            cause_of(rt.alloc(), line, Mode::Run),
-            Some(Cause::OnlyInSchedule),
-            "{line}"
-        );
-        assert_eq!(rt; cause_of(rt.alloc(), line, Mode::Schedule), None, "{line}");
-    }
-}
-
-#[test]
-fn every_other_cause_comes_first(rt: HostRuntime) {
-    for (line, cause) in [
-        ("begin go", Cause::UnknownWord),
-        ("1 go", Cause::UnknownWord),
-        ("step x", Cause::UnknownWord),
-        ("begin 7", Cause::MissingArgument),
-        ("daemon 1", Cause::ExtraArgument),
-        ("step 70000000000", Cause::BadNumber),
-        ("begin group a", Cause::BadName),
-    ] {
-        assert_eq!(rt;
-            cause_of(rt.alloc(), line, Mode::Run),
-            Some(cause),
-            "{line}"
-        );
-        assert_eq!(rt;
-            cause_of(rt.alloc(), line, Mode::Schedule),
-            Some(cause),
-            "{line}"
-        );
-    }
-}
-
-#[test]
-fn recursive_protection_is_a_word_of_the_header_of_both(rt: HostRuntime) {
-    for (text, cause) in [
-        ("recursiveprot", None),
-        ("recursiveprot\nswap 1\nrecursiveprot\ngo", None),
-        ("go\nrecursiveprot", Some(Cause::HeaderAfterCommands)),
-        ("recursiveprot 1", Some(Cause::ExtraArgument)),
-        ("begin recursiveprot", Some(Cause::UnknownWord)),
-    ] {
-        assert_eq!(rt; cause_of(rt.alloc(), text, Mode::Run), cause, "{text}");
-        assert_eq!(rt; cause_of(rt.alloc(), text, Mode::Schedule), cause, "{text}");
-    }
-}
-
-#[test]
-fn it_is_said_why_a_line_is_refused(rt: HostRuntime) -> Result<(), Fail> {
-    let text = b"group /a\n\tbegin 1 exit\ngo\n";
-    let fault = read(rt.alloc(), text, Mode::Run)
-        .err()
-        .ok_or("not refused")?;
-    let said = format!(in rt.alloc(); "{fault}")?;
-    assert_eq!(rt; said.as_str(), "line 2: only in schedule");
-    let more = explain(rt.alloc(), text, fault)?.ok_or("no more is said")?;
-    assert_eq!(rt;
-        more.as_str(),
-        "word 1 (\"begin\") works in a schedule only; threads take no turns"
-    );
     Ok(())
 }

@@ -1,6 +1,8 @@
 -- Places of seats.
 use Rattle.std.specs.Prelude.{◌≡◌, ℕ, Bool, true, false, suc, ◌<◌, List, [], ◌∷◌, length, map, Option, None, Some, if◌then◌else◌}
 use Rattle.machine.specs.declared.command.Actor.{Actor}
+use Rattle.turns.specs.declared.turn.Stage.{Stage}
+use Rattle.turns.specs.declared.turn.Stage.TheVariants as stage
 use Rattle.driver.specs.declared.seat.Activity.{Activity}
 use Rattle.driver.specs.declared.seat.Activity.TheVariants.{Rests, Begun, Does}
 use Rattle.driver.specs.declared.seat.Seat.{Seat}
@@ -30,3 +32,14 @@ abbrev pub is_under_way : Activity → Bool
 is_under_way Rests = false
 is_under_way (Begun command) = true
 is_under_way (Does stage) = true
+
+-- the next turn of a command there is a call of the device
+abbrev pub is_call : Stage → Bool
+is_call (stage.Read access ticket) = true
+is_call (stage.Write on ticket) = true
+is_call other = false
+
+abbrev pub calls_device : Activity → Bool
+calls_device Rests = false
+calls_device (Begun command) = false
+calls_device (Does stands) = is_call stands

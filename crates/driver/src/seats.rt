@@ -3,7 +3,7 @@
 ghost use Rattle.std.specs.Prelude.{◌≡◌, ℕ, ◌+◌, ◌<◌, ◌≤◌, ◌++◌, ◌∷◌, [], length, None, IfOk, OnOk, OnErr, true, false};
 ghost use Rattle.driver.specs.Schedule.{number_of, with_activity, activity_of, said_at, outcome_of, left_of, is_end};
 ghost use Rattle.turns.specs.Tickets.{OwnTransition};
-ghost use Rattle.driver.specs.Seats.{SitsAt, IsFound, is_under_way};
+ghost use Rattle.driver.specs.Seats.{SitsAt, IsFound, is_under_way, calls_device};
 ghost use Rattle.turns.specs.Turns.{answer_by};
 ghost use Rattle.driver.specs.Hands.{OwnActivity, OwnSeats};
 
@@ -137,6 +137,17 @@ impl Seats {
         }
     }
 
+    /// Whether the next turn of the actor, whose seat is at `found` if it has one, is a call of the device.
+    pub fn calls_device(&self, found: Option<usize>, actor: Actor) -> bool
+        requires { IsFound actor found self.now }
+        ensures { result ≡ calls_device (activity_of actor self.now) }
+    {
+        match found {
+            None => false,
+            Some(place) => is_calling(&self.list[place].activity),
+        }
+    }
+
     /// What the next turn of the actor at this place will ask for, if a sink sees it before.
     pub fn notice_at(&self, place: usize) -> Option<Notice>
         requires { place < length self.now }
@@ -190,6 +201,16 @@ fn is_at_work(activity: &Activity) -> bool
     match activity {
         Activity::Rests => false,
         Activity::Begun(_) | Activity::Does(_) => true,
+    }
+}
+
+fn is_calling(activity: &Activity) -> bool
+    ensures { result ≡ calls_device activity.now }
+{
+    match activity {
+        Activity::Rests | Activity::Begun(_) => false,
+        Activity::Does(Stage::Read(_, _) | Stage::Write(_, _)) => true,
+        Activity::Does(_) => false,
     }
 }
 

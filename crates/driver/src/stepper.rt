@@ -4,7 +4,7 @@ ghost use Rattle.std.specs.Prelude.{◌≡◌, ◌⊎◌, ◌∷◌, [], true, f
 ghost use Rattle.machine.specs.declared.command.Reply.{Reply as Told_by};
 ghost use Rattle.block_store.specs.Device.{Disk};
 ghost use Rattle.driver.specs.Schedule.{first_world, fits, activity_of, Runs};
-ghost use Rattle.driver.specs.Seats.{is_under_way};
+ghost use Rattle.driver.specs.Seats.{is_under_way, calls_device};
 ghost use Rattle.driver.specs.Desks.{RunsTo};
 ghost use Rattle.driver.specs.Sinks.{CutsRun, IsCut};
 ghost use Rattle.driver.specs.Traced.{GivesUp, Closes};
@@ -86,6 +86,14 @@ impl<D: BlockDevice> Stepper<D> {
     {
         let found = self.desk.seats.find(actor);
         self.desk.seats.is_under_way(found, actor)
+    }
+
+    /// Whether the actor's next turn is a call of the device.
+    pub fn calls_device(&self, actor: Actor) -> bool
+        ensures { result ≡ calls_device (activity_of actor self.now.seats) }
+    {
+        let found = self.desk.seats.find(actor);
+        self.desk.seats.calls_device(found, actor)
     }
 
     /// The book as it is after the steps so far.

@@ -1,1 +1,2 @@
+pub mod ExploringLemmas
 pub mod StatusLemmas

@@ -1,2 +1,4 @@
 pub mod Buffers
 pub mod Calls
+pub mod Exploring
+pub mod Scenarios

@@ -5,6 +5,7 @@
 //! says how many bytes there are. So the caller can ask again with more room. It returns a number of [`status`].
 #![tactic(auto)]
 
+mod exploration;
 mod said;
 mod scenario;
 pub mod status;
@@ -21,10 +22,16 @@ ghost use Rattle.subcommands.specs.Scripts.{PrintsScript, PrintsPart, EndsScript
 ghost use Rattle.subcommands.specs.Charted.{ListsScript};
 ghost use Rattle.std.specs.Io.KnownBytes.{Appends};
 ghost use Rattle.subcommands.specs.Told.{IsRefused, AllTold, StartsReport};
+ghost use Rattle.explore.specs.declared.report.Verdict.{Verdict};
+ghost use Rattle.explore.specs.Explores.{Explores};
+ghost use Rattle.embedding.specs.Exploring.{exploration_of, IsWhole};
 ghost use Rattle.embedding.specs.declared.status.TheConstants.{OK, BAD_SCRIPT, NO_MEMORY, REFUSED, DIFFERS, BAD_OPTIONS};
 ghost use Rattle.embedding.specs.Buffers.{Got, Gives};
 ghost use Rattle.embedding.specs.Calls.{placement_of, options_of, chart_options_of, status_by, IsUnsound, WhyNot, Tells, TellsPart, TellsPartNamed, IsStart};
+ghost use Rattle.embedding.specs.Scenarios.{IsUnsoundScenario};
 
+pub use exploration::ExploreAsked;
+use exploration::explore_status;
 use printer::write_bytes;
 use said::{Said, tell};
 pub use scenario::ScenarioAsked;
@@ -452,6 +459,8 @@ fn simulate_status(
     ensures unprinted { result ≡ BAD_OPTIONS → printed.new.items ≡ [] }
     ensures texts { (result ≡ OK) ⊎ (result ≡ DIFFERS) → IsUtf8 settings.now × IsUtf8 groups.now }
     ensures reads { (result ≡ OK) ⊎ (result ≡ DIFFERS) → IsOk (scenario_of text.now) }
+    ensures bad { result ≡ BAD_SCRIPT → IsUnsoundScenario text.now settings.now }
+    ensures misasked { result ≡ BAD_OPTIONS → (settings.now ≢ []) ⊎ (groups.now ≢ []) }
     ensures long { SCRIPT_BYTES < length text.now → ((result ≡ BAD_SCRIPT) ⊎ (result ≡ NO_MEMORY)) × (printed.new.items ≡ []) }
 {
     if is_too_long(text) {
@@ -482,6 +491,10 @@ pub fn simulate(
     ensures texts { (result ≡ OK) ⊎ (result ≡ DIFFERS) → IsUtf8 settings.now × IsUtf8 groups.now }
     // A text with a fault is not run.
     ensures reads { (result ≡ OK) ⊎ (result ≡ DIFFERS) → IsOk (scenario_of text.now) }
+    // BAD_SCRIPT: the text is too long, or it is a faulty scenario.
+    ensures bad { result ≡ BAD_SCRIPT → IsUnsoundScenario text.now settings.now }
+    // BAD_OPTIONS: the fault is in the settings or in the paths.
+    ensures misasked { result ≡ BAD_OPTIONS → (settings.now ≢ []) ⊎ (groups.now ≢ []) }
     // A text that is too long is not run.
     ensures long { SCRIPT_BYTES < length text.now → ((result ≡ BAD_SCRIPT) ⊎ (result ≡ NO_MEMORY)) × (lengths.new.out ≡ 0) × (out.new ≡ out.old) }
     // Each buffer got the bytes for which there is room, and their number.
@@ -519,6 +532,8 @@ fn expand_status(
     ensures unprinted { result ≢ OK → script.new.items ≡ [] }
     ensures texts { result ≡ OK → IsUtf8 settings.now }
     ensures reads { result ≡ OK → IsOk (scenario_of text.now) }
+    ensures bad { result ≡ BAD_SCRIPT → IsUnsoundScenario text.now settings.now }
+    ensures misasked { result ≡ BAD_OPTIONS → (settings.now ≢ []) ⊎ (cuts.now ≢ []) }
     ensures long { SCRIPT_BYTES < length text.now → (result ≡ BAD_SCRIPT) ⊎ (result ≡ NO_MEMORY) }
 {
     if is_too_long(text) {
@@ -548,6 +563,10 @@ pub fn expand(
     ensures texts { result ≡ OK → IsUtf8 settings.now }
     // A text with a fault has no script.
     ensures reads { result ≡ OK → IsOk (scenario_of text.now) }
+    // BAD_SCRIPT: the text is too long, or it is a faulty scenario.
+    ensures bad { result ≡ BAD_SCRIPT → IsUnsoundScenario text.now settings.now }
+    // BAD_OPTIONS: the fault is in the settings or in the lengths.
+    ensures misasked { result ≡ BAD_OPTIONS → (settings.now ≢ []) ⊎ (cuts.now ≢ []) }
     // A text that is too long is not read.
     ensures long { SCRIPT_BYTES < length text.now → (result ≡ BAD_SCRIPT) ⊎ (result ≡ NO_MEMORY) }
     // Each buffer got the bytes for which there is room, and their number.
@@ -558,5 +577,41 @@ pub fn expand(
     let mut said = Said::new(alloc);
     let status = expand_status(alloc, text, settings, cuts, &mut script, &mut said);
     *lengths = give(&script, &said.bytes, out, err);
+    status
+}
+
+/// Runs a script's work in the orders of its turns in which calls of the device come first, in every order, or in those
+/// of a sample, as `memcgrun explore` does. Lists the outcomes, or gives the first order with one of them as a script.
+pub fn explore(
+    alloc: Global,
+    script: &[u8],
+    asked: &ExploreAsked,
+    out: &mut [u8],
+    err: &mut [u8],
+    lengths: &mut Lengths,
+) -> u8
+    // One of OK, BAD_SCRIPT, NO_MEMORY, DIFFERS and BAD_OPTIONS.
+    ensures known { (result ≤ NO_MEMORY) ⊎ (result ≡ DIFFERS) ⊎ (result ≡ BAD_OPTIONS) }
+    // OK: all orders were run, or all of the sample, and `out` got the list of their outcomes. The script that shows an
+    // outcome is only tested.
+    ensures explored { result ≡ OK → (bytes : List ℕ) × (verdict : Verdict) × IsWhole verdict × Explores (exploration_of asked.now) script.now verdict (Some []) (Some bytes) × Gives out.old out.new lengths.new.out bytes }
+    ensures silent { result ≡ OK → (lengths.new.err ≡ 0) × (err.new ≡ err.old) }
+    // DIFFERS: not all orders were run. BAD_OPTIONS: there is no outcome of the number that is to be shown.
+    ensures faultless { (result ≡ DIFFERS) ⊎ (result ≡ BAD_OPTIONS) → IsFaultless Schedule (lines script.now) }
+    // BAD_SCRIPT, NO_MEMORY and BAD_OPTIONS: `out` got nothing.
+    ensures unprinted { result ≢ OK → result ≢ DIFFERS → (lengths.new.out ≡ 0) × (out.new ≡ out.old) }
+    // A script that is too long or has a faulty line has no other status than BAD_SCRIPT, unless memory runs out. `err`
+    // got `script: ` and then all lines of the reason. BAD_SCRIPT also means that the script has no work, or that its
+    // setup fails.
+    ensures unsound { IsUnsound script.now → (result ≡ BAD_SCRIPT) ⊎ (result ≡ NO_MEMORY) }
+    ensures told { result ≡ BAD_SCRIPT → IsUnsound script.now → (text : List ℕ) × Tells (plain_as (placement_of asked.now.as_linux)) (codes "script") script.now (codes "script: ") text result × Gives err.old err.new lengths.new.err text }
+    // Each buffer got the bytes for which there is room, and their number.
+    ensures out { (bytes : List ℕ) × Gives out.old out.new lengths.new.out bytes }
+    ensures err { (bytes : List ℕ) × Gives err.old err.new lengths.new.err bytes }
+{
+    let mut listed = Vec::new(alloc);
+    let mut said = Said::new(alloc);
+    let status = explore_status(alloc, script, *asked, &mut listed, &mut said);
+    *lengths = give(&listed, &said.bytes, out, err);
     status
 }

@@ -1,8 +1,12 @@
 //! Scenarios: their runs, and their scripts.
 
-ghost use Rattle.std.specs.Prelude.{◌≡◌, ◌≢◌, ◌⊎◌, ◌≤◌, [], IsUtf8, IsOk, OnOk};
+ghost use Rattle.std.specs.Prelude.{◌≡◌, ◌≢◌, ◌⊎◌, ◌≤◌, [], map, IsUtf8, IsOk, IfOk, IfErr, OnOk, OnErr};
+ghost use Rattle.std.specs.Str.Lines.{lines};
 ghost use Rattle.scenarios.specs.Scenario.{scenario_of};
-ghost use Rattle.embedding.specs.declared.status.TheConstants.{OK, NO_MEMORY, DIFFERS, BAD_OPTIONS};
+ghost use Rattle.scenario_reports.specs.Faulty.{IsFaulty};
+ghost use Rattle.embedding.specs.Scenarios.{filled_lines};
+ghost use Rattle.embedding.specs.declared.scenario.Misuse.TheVariants.{Memory};
+ghost use Rattle.embedding.specs.declared.status.TheConstants.{OK, BAD_SCRIPT, NO_MEMORY, DIFFERS, BAD_OPTIONS};
 
 use crate::said::Said;
 use crate::status::{BAD_OPTIONS, BAD_SCRIPT, DIFFERS, NO_MEMORY, OK};
@@ -41,52 +45,67 @@ enum Misuse {
 }
 
 impl From<AllocError> for Misuse {
-    fn from(_: AllocError) -> Misuse
-        ensures memory { result ≡ Misuse.Memory }
-    {
+    ghost from_gives = { λ _ why. why ≡ Memory };
+
+    fn from(_: AllocError) -> Misuse {
         Misuse::Memory
     }
 }
 
-/// Adds the lines of a text that are not empty.
-fn add_lines<'a>(text: &'a str, lines: &mut Vec<&'a str>) -> Result<(), AllocError> {
-    for line in text.lines() {
+fn lines_of<'a>(alloc: Global, text: &'a str) -> Result<Vec<&'a str>, AllocError>
+    ensures { IfOk result (λ all. map (λ l. l.now) all.items ≡ lines text.now) }
+{
+    text.lines().collect(alloc)
+}
+
+/// The lines of a text that are not empty.
+fn filled_lines<'a>(alloc: Global, text: &'a str) -> Result<Vec<&'a str>, AllocError>
+    ensures { IfOk result (λ filled. map (λ l. l.now) filled.items ≡ filled_lines text.now) }
+{
+    let all = lines_of(alloc, text)?;
+    let mut filled = Vec::new(alloc);
+    for line in &all {
         if !line.is_empty() {
-            lines.push(line)?;
+            filled.push(*line)?;
         }
     }
-    Ok(())
+    Ok(filled)
 }
 
 /// Reads texts `NAME=WORD`, one a line.
-fn read_settings<'a>(bytes: &'a [u8], settings: &mut Vec<&'a str>) -> Result<(), Misuse>
+fn read_settings<'a>(alloc: Global, bytes: &'a [u8]) -> Result<Vec<&'a str>, Misuse>
     ensures texts { OnOk result (IsUtf8 bytes.now) }
+    ensures settings { IfOk result (λ settings. map (λ l. l.now) settings.items ≡ filled_lines bytes.now) }
+    ensures misused { IfErr result (λ why. why ≢ Misuse.Memory → bytes.now ≢ []) }
 {
-    match str::from_utf8(bytes) {
-        Ok(text) => add_lines(text, settings)?,
-        Err(_) => return Err(Misuse::SettingsNotText),
-    }
+    let Ok(text) = str::from_utf8(bytes) else {
+        return Err(Misuse::SettingsNotText);
+    };
+    let settings = filled_lines(alloc, text)?;
     for (place, setting) in settings.iter().enumerate() {
         if !is_setting(setting) {
             return Err(Misuse::NotSetting(place.saturating_add(1)));
         }
     }
-    Ok(())
+    Ok(settings)
 }
 
 /// Reads paths, one a line.
-fn read_groups<'a>(bytes: &'a [u8], groups: &mut Vec<&'a str>) -> Result<(), Misuse>
+fn read_groups<'a>(alloc: Global, bytes: &'a [u8]) -> Result<Vec<&'a str>, Misuse>
     ensures texts { OnOk result (IsUtf8 bytes.now) }
+    ensures groups { IfOk result (λ groups. map (λ l. l.now) groups.items ≡ filled_lines bytes.now) }
+    ensures misused { IfErr result (λ why. why ≢ Misuse.Memory → bytes.now ≢ []) }
 {
-    match str::from_utf8(bytes) {
-        Ok(text) => Ok(add_lines(text, groups)?),
-        Err(_) => Err(Misuse::GroupsNotText),
-    }
+    let Ok(text) = str::from_utf8(bytes) else {
+        return Err(Misuse::GroupsNotText);
+    };
+    Ok(filled_lines(alloc, text)?)
 }
 
 /// Adds the line that says why options are not taken, and returns the status.
 fn refuse(why: Misuse, said: &mut Said) -> u8
     ensures known { (result ≡ NO_MEMORY) ⊎ (result ≡ BAD_OPTIONS) }
+    ensures misused { result ≡ BAD_OPTIONS → why ≢ Misuse.Memory }
 {
     let written = match why {
         Misuse::Memory => return NO_MEMORY,
@@ -106,6 +125,7 @@ fn refuse(why: Misuse, said: &mut Said) -> u8
 fn status_of(failure: Failure, said: &Said) -> u8
     ensures known { (result ≤ NO_MEMORY) ⊎ (result ≡ BAD_OPTIONS) }
     ensures failed { result ≢ OK }
+    ensures faulty { result ≡ BAD_SCRIPT → failure ≡ Failure.Faulty }
     ensures misasked { result ≡ BAD_OPTIONS → failure ≡ Failure.Misasked }
 {
     match failure {
@@ -147,15 +167,17 @@ pub fn carry_out(
     ensures texts { (result ≡ OK) ⊎ (result ≡ DIFFERS) → IsUtf8 settings.now × IsUtf8 groups.now }
     ensures reads { (result ≡ OK) ⊎ (result ≡ DIFFERS) → IsOk (scenario_of text.now) }
     ensures silent { (result ≡ OK) ⊎ (result ≡ DIFFERS) → said.new.bytes.items ≡ [] }
+    ensures faulty { result ≡ BAD_SCRIPT → IsFaulty text.now (filled_lines settings.now) }
+    ensures misasked { result ≡ BAD_OPTIONS → (settings.now ≢ []) ⊎ (groups.now ≢ []) }
 {
-    let mut named = Vec::new(alloc);
-    let mut paths = Vec::new(alloc);
-    if let Err(why) = read_settings(settings, &mut named) {
-        return refuse(why, said);
-    }
-    if let Err(why) = read_groups(groups, &mut paths) {
-        return refuse(why, said);
-    }
+    let named = match read_settings(alloc, settings) {
+        Ok(named) => named,
+        Err(why) => return refuse(why, said),
+    };
+    let paths = match read_groups(alloc, groups) {
+        Ok(paths) => paths,
+        Err(why) => return refuse(why, said),
+    };
     let asked = Asked {
         name: NAME,
         settings: named.as_slice(),
@@ -194,11 +216,13 @@ pub fn print_script(
     ensures unprinted { result ≢ OK → script.new.items ≡ [] }
     ensures texts { result ≡ OK → IsUtf8 settings.now }
     ensures reads { result ≡ OK → IsOk (scenario_of text.now) }
+    ensures faulty { result ≡ BAD_SCRIPT → IsFaulty text.now (filled_lines settings.now) }
+    ensures misasked { result ≡ BAD_OPTIONS → (settings.now ≢ []) ⊎ (cuts.now ≢ []) }
 {
-    let mut named = Vec::new(alloc);
-    if let Err(why) = read_settings(settings, &mut named) {
-        return refuse(why, said);
-    }
+    let named = match read_settings(alloc, settings) {
+        Ok(named) => named,
+        Err(why) => return refuse(why, said),
+    };
     match try_expand(alloc, NAME, text, named.as_slice(), cuts, script, said) {
         Ok(()) => OK,
         Err(failure) => {

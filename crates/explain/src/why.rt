@@ -328,7 +328,7 @@ impl<'a> Why<'a> {
                 word,
                 " is not ",
                 Part::Kind(kind),
-                "; a line accesses one page",
+                "; a line accesses one page (a scenario, for \"memcgrun simulate\", takes ranges)",
             ),
             Why::Turned(path, number) => about_with(
                 path,

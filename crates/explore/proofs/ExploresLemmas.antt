@@ -1,5 +1,5 @@
 -- What was found of a script's orders.
-use Rattle.std.proofs.Common.{◌≡◌, ℕ, List, length, Option, None, Vec, refl, sym, ap, ◌∙◌}
+use Rattle.std.proofs.Common.{◌≡◌, ℕ, List, length, Option, None, Vec, ap, ◌∙◌, subst}
 use Rattle.std.specs.Io.KnownBytes.{Appends}
 use Rattle.std.specs.Str.Lines.{lines}
 use Rattle.std.specs.declared.alloc.Global.{Global}
@@ -12,24 +12,26 @@ use Rattle.scripts.specs.Script.{items_of, faults_of, steps_in, lines_in, IsFaul
 use Rattle.schedules.specs.Schedule.{ScheduleOf}
 use Rattle.walks.specs.declared.Walk.{Walk}
 use Rattle.explorer.specs.declared.parts.Parts.{Parts}
-use Rattle.explorer.specs.Tally.{Counted}
-use Rattle.explorer.specs.Explored.{Explored}
+use Rattle.explorer.specs.Tally.{Findings}
 use Rattle.explore.specs.declared.asked.Asked.{Asked}
 use Rattle.explore.specs.declared.fault.Fault.{Fault}
 use Rattle.explore.specs.declared.fault.Fault.TheVariants as fault
 use Rattle.explore.specs.declared.report.Verdict.{Verdict}
 use Rattle.explore.specs.Division.{IsDivided}
 use Rattle.explore.specs.Said.{IsRead}
-use Rattle.explore.specs.Explores.{verdict_of, IsListOf, Explores, IsOfRun, Explains}
+use Rattle.explore.specs.Explores.{verdict_of, list_for, IsFound, Explores, IsOfRun, Explains}
+use Rattle.explore.proofs.ApartLemmas.{loses_nothing}
 use Rattle.explore.proofs.GoLemmas.{goes_of}
 
-pub explored : (asked : Asked) (script : List ℕ) (config : Config) (reads writes : Vec ℕ Global) (schedule : ScheduleOf) (parts : Parts) (walk : Walk) (rows : List Counted) (text : List ℕ) (verdict : Verdict) (old new : Option (List ℕ))
+pub explored : (asked : Asked) (script : List ℕ) (config : Config) (reads writes : Vec ℕ Global) (schedule : ScheduleOf) (parts : Parts) (walk : Walk) (found : Findings) (text : List ℕ) (verdict : Verdict) (old new : Option (List ℕ))
     → IsFaultless Schedule (lines script) → config ≡ config_of (items_of (lines script)) → reads.items ≡ faults_of Read (items_of (lines script)) → writes.items ≡ faults_of Write (items_of (lines script))
     → schedule.steps ≡ steps_in Schedule (items_of (lines script)) → schedule.numbers ≡ lines_in Schedule (items_of (lines script))
     → parts.config ≡ record config { placement = asked.placement } → parts.read_faults ≡ reads → parts.write_faults ≡ writes → ((is : List Item) → IsRead is (lines script) schedule → IsDivided is parts)
-    → Explored parts asked.turns asked.orders walk rows → (asked.show ≡ None → IsListOf asked walk rows text) → Appends old new text → verdict ≡ verdict_of asked walk (length rows) → Explores asked script verdict old new
-explored asked script config reads writes schedule parts walk rows text verdict old new faultless c r w s n pc pr pw divided found lists appends said =
+    → IsFound asked parts walk found → (asked.show ≡ None → text ≡ list_for asked parts walk found) → Appends old new text → verdict ≡ verdict_of asked walk (length found.rows) → Explores asked script verdict old new
+explored asked script config reads writes schedule parts walk found text verdict old new faultless c r w s n pc pr pw divided is_found lists appends said =
+    let P : List ℕ → Type 0 = λ (bs : List ℕ). Appends old new bs in
     let is = items_of (lines script) in
+    let parted : IsDivided is parts = divided is (record { steps = s; numbers = n; goes = goes_of (lines script) faultless }) in
     record {
       faultless = faultless;
       parts = parts;
@@ -37,13 +39,14 @@ explored asked script config reads writes schedule parts walk rows text verdict 
         config = pc ∙ ap (λ (x : Config). record x { placement = asked.placement }) c;
         read_faults = ap (λ (v : Vec ℕ Global). v.items) pr ∙ r;
         write_faults = ap (λ (v : Vec ℕ Global). v.items) pw ∙ w;
-        divided = divided is (record { steps = s; numbers = n; goes = goes_of (lines script) faultless });
+        divided = parted;
       };
       walk = walk;
-      rows = rows;
-      explored = found;
+      found = found;
+      is_found = is_found;
+      complete = loses_nothing asked.choice is parts parted;
       verdict_is = said;
-      lists = λ e. record { text = text; is = lists e; appends = appends };
+      lists = λ e. subst P (lists e) appends;
     }
 
 pub explained : (script : List ℕ) (why : Fault) → IsFaultless Schedule (lines script) → IsOfRun why → Explains script why

@@ -1,3 +1,4 @@
+pub mod ApartLemmas
 pub mod GoLemmas
 pub mod SaidLemmas
 pub mod RowLemmas

@@ -1,15 +1,19 @@
 -- What is found of a script's orders, and printed.
-use Rattle.std.specs.Prelude.{◌≡◌, ℕ, List, Option, None, length}
+use Rattle.std.specs.Prelude.{◌≡◌, ℕ, List, Option, None, Some, length}
 use Rattle.std.specs.Io.KnownBytes.{Appends}
 use Rattle.std.specs.Str.Lines.{lines}
 use Rattle.scripts.specs.declared.mode.Mode.TheVariants.{Schedule}
 use Rattle.scripts.specs.Script.{items_of, IsFaultless, NamesFirstFault}
 use Rattle.walks.specs.declared.Walk.{Walk}
-use Rattle.walks.specs.declared.Walk.TheVariants.{All, Stopped, TooDeep}
+use Rattle.walks.specs.declared.Walk.TheVariants.{All, Stopped, TooDeep, Sample}
 use Rattle.explorer.specs.declared.parts.Parts.{Parts}
-use Rattle.explorer.specs.Tally.{Counted}
-use Rattle.explorer.specs.Explored.{Explored}
+use Rattle.explorer.specs.declared.choice.Choice.{Choice}
+use Rattle.explorer.specs.Outcome.{choice_in}
+use Rattle.explorer.specs.Tally.{Findings}
+use Rattle.explorer.specs.Explored.{Explored, Sampled}
+use Rattle.exchange.specs.Outcomes.{LosesNothing}
 use Rattle.explore.specs.declared.asked.Asked.{Asked}
+use Rattle.explore.specs.declared.asked.Sample.{Sample as Sampling}
 use Rattle.explore.specs.declared.fault.Fault.{Fault}
 use Rattle.explore.specs.declared.fault.Fault.TheVariants as fault
 use Rattle.explore.specs.declared.report.Verdict.{Verdict}
@@ -22,30 +26,32 @@ abbrev pub verdict_of : Asked → Walk → ℕ → Verdict
 verdict_of asked (All count) outcomes = verdict.All outcomes
 verdict_of asked Stopped outcomes = verdict.MoreOrders asked.orders
 verdict_of asked TooDeep outcomes = verdict.MoreTurns asked.turns
+verdict_of asked (Sample count) outcomes = verdict.Sample outcomes
 
--- a text is the list of these outcomes, each with its count. Nothing is said of how many turns the shortest and the longest order have. (Excludes counts
--- of two outcomes that are changed for each other.)
-pub record IsListOf (asked : Asked) (walk : Walk) (found : List Counted) (text : List ℕ) : Type 0 where
-  pub shortest : ℕ
-  pub longest : ℕ
-  pub text_is : text ≡ list_text walk (orders_in walk asked.orders found) shortest longest found
+-- the list of what was found
+abbrev pub list_for : Asked → Parts → Walk → Findings → List ℕ
+list_for asked parts walk found = list_text (choice_in parts asked.choice) walk (orders_in walk asked.orders found.rows) found
 
--- a writer got such a text
-pub record Lists (asked : Asked) (walk : Walk) (found : List Counted) (old new : Option (List ℕ)) : Type 0 where
-  pub text : List ℕ
-  pub is : IsListOf asked walk found text
-  pub appends : Appends old new text
+abbrev pub IsFoundBy : Option Sampling → Choice → Parts → ℕ → ℕ → Walk → Findings → Type 0
+IsFoundBy None choice parts turns orders walk found = Explored choice parts turns orders walk found
+IsFoundBy (Some sample) choice parts turns orders walk found = Sampled choice parts turns sample.orders walk found
 
--- no line of the script is faulty, these outcomes were found of the orders of its work, and the list of them was written, if no outcome is to be shown
+-- this was found of all orders of the work that the choice leaves, or of a sample of them if one was asked for. (Excludes a sample in place of all orders.)
+abbrev pub IsFound : Asked → Parts → Walk → Findings → Type 0
+IsFound asked parts walk found = IsFoundBy asked.sample (choice_in parts asked.choice) parts asked.turns asked.orders walk found
+
+-- no line of the script is faulty, this was found of the orders of its work, of which the choice leaves one for each outcome, and the list of it was written, if no outcome is to be
+-- shown
 pub record Explores (asked : Asked) (script : List ℕ) (verdict : Verdict) (old new : Option (List ℕ)) : Type 0 where
   pub faultless : IsFaultless Schedule (lines script)
   pub parts : Parts
   pub parts_are : ArePartsOf asked.placement (items_of (lines script)) parts
   pub walk : Walk
-  pub rows : List Counted
-  pub explored : Explored parts asked.turns asked.orders walk rows
-  pub verdict_is : verdict ≡ verdict_of asked walk (length rows)
-  pub lists : asked.show ≡ None → Lists asked walk rows old new
+  pub found : Findings
+  pub is_found : IsFound asked parts walk found
+  pub complete : LosesNothing (choice_in parts asked.choice) parts
+  pub verdict_is : verdict ≡ verdict_of asked walk (length found.rows)
+  pub lists : asked.show ≡ None → Appends old new (list_for asked parts walk found)
 
 -- it is not of the script's lines
 abbrev pub IsOfRun : Fault → Type 0

@@ -1,10 +1,12 @@
 -- The list of outcomes that is printed.
-use Rattle.std.specs.Prelude.{ℕ, ◌+◌, Bool, ◌==◌, nat_lt, List, [], ◌∷◌, ◌++◌, fold, length, codes, decimal, if◌then◌else◌}
+use Rattle.std.specs.Prelude.{ℕ, ◌+◌, ◌==◌, nat_lt, List, [], ◌∷◌, ◌++◌, fold, length, codes, decimal, if◌then◌else◌}
 use Rattle.std.specs.List.{sum_by}
 use Rattle.machine.specs.Control.{line}
 use Rattle.walks.specs.declared.Walk.{Walk}
-use Rattle.walks.specs.declared.Walk.TheVariants.{All, Stopped, TooDeep}
-use Rattle.explorer.specs.Tally.{Counted}
+use Rattle.walks.specs.declared.Walk.TheVariants.{All, Stopped, TooDeep, Sample}
+use Rattle.explorer.specs.declared.choice.Choice.{Choice}
+use Rattle.explorer.specs.declared.choice.Choice.TheVariants.{Any, DeviceFirst}
+use Rattle.explorer.specs.Tally.{Counted, Findings}
 
 -- a number of things
 abbrev pub many : ℕ → List ℕ → List ℕ
@@ -17,17 +19,37 @@ abbrev pub how_far : Walk → List ℕ
 how_far (All count) = codes ""
 how_far Stopped = codes "not all: "
 how_far TooDeep = codes "not all: "
+how_far (Sample count) = codes "a sample of "
+
+-- which orders were run. (Excludes some orders that are taken for all.)
+abbrev pub which : Choice → List ℕ
+which Any = codes ""
+which DeviceFirst = codes " (device calls first)"
 
 -- how many turns the orders have
 abbrev pub turns_text : ℕ → ℕ → List ℕ
 turns_text shortest longest = (if nat_lt shortest longest then decimal shortest ++ codes " to " else []) ++ many longest (codes "turn")
 
-abbrev pub have : ℕ → List ℕ
-have orders = if orders == 1 then codes "has " else codes "have "
+abbrev pub has : ℕ → List ℕ
+has orders = if orders == 1 then codes "has " else codes "have "
 
-abbrev pub first_line : Walk → ℕ → ℕ → ℕ → ℕ → List ℕ
-first_line walk orders shortest longest outcomes =
-    line (how_far walk ++ many orders (codes "order") ++ codes ", of " ++ turns_text shortest longest ++ codes ", " ++ have orders ++ many outcomes (codes "outcome"))
+abbrev pub have : Walk → ℕ → List ℕ
+have (All count) orders = has orders
+have Stopped orders = has orders
+have TooDeep orders = has orders
+have (Sample count) orders = codes "shows "
+
+-- orders outside of a sample may have other outcomes. (Excludes a sample that passes for all orders.)
+abbrev pub doubt : Walk → List ℕ
+doubt (All count) = []
+doubt Stopped = []
+doubt TooDeep = []
+doubt (Sample count) = codes "; there may be others"
+
+-- how many orders were run, and which, how many turns the shortest and the longest of them have, and how many outcomes there are. (Excludes a number of turns that no order has.)
+abbrev pub first_line : Choice → Walk → ℕ → ℕ → ℕ → ℕ → List ℕ
+first_line choice walk orders shortest longest outcomes =
+    line (how_far walk ++ many orders (codes "order") ++ which choice ++ codes ", of " ++ turns_text shortest longest ++ codes ", " ++ have walk orders ++ many outcomes (codes "outcome") ++ doubt walk)
 
 -- ---- the outcomes
 
@@ -52,9 +74,11 @@ rows_text number (row ∷ rows) = row_text number row ++ rows_text (number + 1) 
 -- how many orders were run to their end
 abbrev pub orders_in : Walk → ℕ → List Counted → ℕ
 orders_in (All count) most rows = count
+orders_in (Sample count) most rows = count
 orders_in Stopped most rows = most
 orders_in TooDeep most rows = sum_by (λ (row : Counted). row.orders) rows
 
-abbrev pub list_text : Walk → ℕ → ℕ → ℕ → List Counted → List ℕ
-list_text walk orders shortest longest rows =
-    if orders == 0 then line (codes "no order was run to its end") else first_line walk orders shortest longest (length rows) ++ rows_text 1 (ranked rows)
+abbrev pub list_text : Choice → Walk → ℕ → Findings → List ℕ
+list_text choice walk orders found =
+    if orders == 0 then line (codes "no order was run to its end")
+    else first_line choice walk orders found.shortest found.longest (length found.rows) ++ rows_text 1 (ranked found.rows)

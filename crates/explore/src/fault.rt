@@ -8,9 +8,9 @@ use std::{fmt, io};
 /// Why a script was not explored.
 #[derive(Debug, Drop)]
 pub enum Fault {
-    /// A line is faulty, as it is for a schedule; or there was no memory for what the script says.
+    /// A line is faulty, as for a schedule. Or there was no memory for what the script says.
     Script(ScriptFault),
-    /// The line with this number takes a command apart, and is in the work. There the order of turns is not the script's.
+    /// The line with this number is `begin`, `step` or `finish`, and it is in the work. There all orders of turns are run.
     TakesApart(usize),
     /// The script has no work.
     NoWork,

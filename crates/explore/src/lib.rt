@@ -2,7 +2,8 @@
 //!
 //! A script has three parts. The lines before its first `go` are the setup. Those after it are the work: each actor has
 //! its lines, in their order, and the turns of the actors can come in any order. Those after a second `go` are the looks,
-//! which are done when the work is over. [`explore_script`] runs the machine once for each order, and counts the outcomes.
+//! which are carried out when the work is over. [`explore_script`] runs the machine once for each order, or for each order of a
+//! sample, and counts the outcomes.
 #![tactic(auto)]
 
 mod asked;
@@ -18,6 +19,7 @@ mod trial;
 /// The most actors of a script that is explored.
 pub const MOST_ACTORS: usize = 1000;
 
-pub use asked::Asked;
+pub use asked::{Asked, Sample};
+pub use explorer::Choice;
 pub use fault::Fault;
 pub use report::{Verdict, explore_script};

@@ -4,14 +4,14 @@ ghost use Rattle.std.specs.Prelude.{◌≡◌, ◌++◌, ◌+◌, map, length, I
 ghost use Rattle.std.specs.String.{string_bytes};
 ghost use Rattle.std.specs.List.{sum_by, position};
 ghost use Rattle.explorer.specs.Tally.{Counted};
-ghost use Rattle.explore.specs.Listing.{many, how_far, turns_text, have, first_line, with_ranked, ranked, row_text, rows_text, orders_in, list_text};
+ghost use Rattle.explore.specs.Listing.{many, how_far, which, turns_text, have, doubt, first_line, with_ranked, ranked, row_text, rows_text, orders_in, list_text};
 ghost use Rattle.explore.specs.Listed.{shown, shown_rows, is_fewer};
 
-use explorer::{Found, Table};
+use explorer::{Choice, Found, Table};
 use std::alloc::{AllocError, Global};
 use walks::Walk;
 
-/// An outcome with what was found of it.
+/// An outcome, and the orders that give it.
 #[derive(Clone, Copy)]
 pub struct Listed<'t> {
     pub outcome: &'t str,
@@ -41,6 +41,17 @@ fn add_how_far(text: &mut String, walk: Walk) -> Result<(), AllocError>
     match walk {
         Walk::All(_) => Ok(()),
         Walk::Stopped | Walk::TooDeep => text.push_str("not all: "),
+        Walk::Sample(_) => text.push_str("a sample of "),
+    }
+}
+
+/// Adds which orders were run.
+fn add_which(text: &mut String, choice: Choice) -> Result<(), AllocError>
+    ensures { OnOk result (string_bytes text.new ≡ string_bytes text.old ++ which choice) }
+{
+    match choice {
+        Choice::Any => Ok(()),
+        Choice::DeviceFirst => text.push_str(" (device calls first)"),
     }
 }
 
@@ -54,33 +65,52 @@ fn add_turns(text: &mut String, shortest: usize, longest: usize) -> Result<(), A
     add_many(text, longest as u64, "turn")
 }
 
-fn add_have(text: &mut String, orders: u64) -> Result<(), AllocError>
-    ensures { OnOk result (string_bytes text.new ≡ string_bytes text.old ++ have orders) }
+/// Adds that the orders have outcomes, or that a sample shows some.
+fn add_have(text: &mut String, walk: Walk, orders: u64) -> Result<(), AllocError>
+    ensures { OnOk result (string_bytes text.new ≡ string_bytes text.old ++ have walk orders) }
 {
-    if orders == 1 {
-        text.push_str("has ")
-    } else {
-        text.push_str("have ")
+    match walk {
+        Walk::Sample(_) => text.push_str("shows "),
+        Walk::All(_) | Walk::Stopped | Walk::TooDeep => {
+            if orders == 1 {
+                text.push_str("has ")
+            } else {
+                text.push_str("have ")
+            }
+        }
     }
 }
 
-/// Adds the first line: how many orders were run, how long they are, and how many outcomes they have.
+/// Adds that orders outside of a sample may have other outcomes.
+fn add_doubt(text: &mut String, walk: Walk) -> Result<(), AllocError>
+    ensures { OnOk result (string_bytes text.new ≡ string_bytes text.old ++ doubt walk) }
+{
+    match walk {
+        Walk::Sample(_) => text.push_str("; there may be others"),
+        Walk::All(_) | Walk::Stopped | Walk::TooDeep => Ok(()),
+    }
+}
+
+/// Adds the first line: how many orders were run, and which, how long they are, and how many outcomes they have.
 fn add_first_line(
     text: &mut String,
+    choice: Choice,
     walk: Walk,
     orders: u64,
     turns: (usize, usize),
     outcomes: usize,
 ) -> Result<(), AllocError>
-    ensures { OnOk result (string_bytes text.new ≡ string_bytes text.old ++ first_line walk orders turns.0 turns.1 outcomes) }
+    ensures { OnOk result (string_bytes text.new ≡ string_bytes text.old ++ first_line choice walk orders turns.0 turns.1 outcomes) }
 {
     add_how_far(text, walk)?;
     add_many(text, orders, "order")?;
+    add_which(text, choice)?;
     text.push_str(", of ")?;
     add_turns(text, turns.0, turns.1)?;
     text.push_str(", ")?;
-    add_have(text, orders)?;
+    add_have(text, walk, orders)?;
     add_many(text, outcomes as u64, "outcome")?;
+    add_doubt(text, walk)?;
     text.push_str("\n")
 }
 
@@ -140,7 +170,7 @@ fn fewer_in(rows: &[Listed<'_>], orders: u64) -> Option<usize>
     rows.iter().position(|row| is_fewer(orders, row))
 }
 
-/// Adds the row behind those with as many orders.
+/// Adds the row after those with at least its number of orders.
 fn add_ranked<'t>(rows: &mut Vec<Listed<'t>>, row: Listed<'t>) -> Result<(), AllocError>
     ensures { OnOk result (shown_rows rows.new.items ≡ with_ranked (shown_rows rows.old.items) (shown row.entry)) }
 {
@@ -182,7 +212,7 @@ fn orders_in(walk: Walk, most: u64, found: &[Listed<'_>]) -> Result<u64, AllocEr
     ensures { IfOk result (λ orders. orders ≡ orders_in walk most (shown_rows found.now)) }
 {
     match walk {
-        Walk::All(orders) => Ok(orders),
+        Walk::All(orders) | Walk::Sample(orders) => Ok(orders),
         Walk::Stopped => Ok(most),
         Walk::TooDeep => orders_of(found),
     }
@@ -192,12 +222,13 @@ fn orders_in(walk: Walk, most: u64, found: &[Listed<'_>]) -> Result<u64, AllocEr
 #[tactic(auto, using(crate::proofs::ListingLemmas::many_rows))]
 fn list_of(
     alloc: Global,
+    choice: Choice,
     walk: Walk,
     orders: u64,
     turns: (usize, usize),
     found: &[Listed<'_>],
 ) -> Result<String, AllocError>
-    ensures { IfOk result (λ text. string_bytes text ≡ list_text walk orders turns.0 turns.1 (shown_rows found.now)) }
+    ensures { IfOk result (λ text. string_bytes text ≡ list_text choice walk orders (record { rows = shown_rows found.now; shortest = turns.0; longest = turns.1 })) }
 {
     let mut text = String::new(alloc);
     if orders == 0 {
@@ -205,7 +236,7 @@ fn list_of(
         return Ok(text);
     }
     let rows = ranked(alloc, found)?;
-    add_first_line(&mut text, walk, orders, turns, found.len())?;
+    add_first_line(&mut text, choice, walk, orders, turns, found.len())?;
     add_rows(&mut text, &rows)?;
     Ok(text)
 }
@@ -214,13 +245,14 @@ fn list_of(
 /// `turns.0` to `turns.1` turns.
 pub fn list(
     alloc: Global,
+    choice: Choice,
     walk: Walk,
     most: u64,
     turns: (usize, usize),
     found: &[Listed<'_>],
 ) -> Result<String, AllocError>
-    ensures { IfOk result (λ text. string_bytes text ≡ list_text walk (orders_in walk most (shown_rows found.now)) turns.0 turns.1 (shown_rows found.now)) }
+    ensures { IfOk result (λ text. string_bytes text ≡ list_text choice walk (orders_in walk most (shown_rows found.now)) (record { rows = shown_rows found.now; shortest = turns.0; longest = turns.1 })) }
 {
     let orders = orders_in(walk, most, found)?;
-    list_of(alloc, walk, orders, turns, found)
+    list_of(alloc, choice, walk, orders, turns, found)
 }

@@ -1,9 +1,10 @@
-//! What is said of an exploration.
+//! An exploration, from the bytes of a script to those of the list.
 
-ghost use Rattle.std.specs.Prelude.{◌≡◌, true, None, length, IfOk, IfErr};
+ghost use Rattle.std.specs.Prelude.{◌≡◌, ◌<◌, ◌^◌, true, None, length, IfOk, IfErr};
 ghost use Rattle.std.specs.String.{string_bytes};
 ghost use Rattle.machine.specs.State.{is_config};
-ghost use Rattle.explore.specs.Explores.{verdict_of, IsListOf, Explores, IsOfRun, Explains};
+ghost use Rattle.explorer.specs.Explored.{findings};
+ghost use Rattle.explore.specs.Explores.{verdict_of, list_for, IsFound, Explores, IsOfRun, Explains};
 
 use crate::asked::Asked;
 use crate::fault::Fault;
@@ -11,7 +12,7 @@ use crate::listing::{Listed, list, ranked, rows_of};
 use crate::script::{Goes, parts_of};
 use crate::shown::shown;
 use crate::trial::try_setup;
-use explorer::{Exploration, Parts, explore};
+use explorer::{Exploration, Parts, explore, sample};
 use schedules::Schedule;
 use scripts::Mode;
 use std::alloc::Global;
@@ -27,6 +28,8 @@ pub enum Verdict {
     MoreOrders(u64),
     /// An order has more turns than this. The outcomes are those of the orders before it.
     MoreTurns(u32),
+    /// A sample of the orders was run. It has this number of outcomes, and there may be others.
+    Sample(usize),
 }
 
 /// The path of the first order with the outcome of this number, from 1.
@@ -60,7 +63,7 @@ fn shown_order(
     Ok(shown(alloc, script, goes, parts, schedule, path)?)
 }
 
-/// What is printed.
+/// The text that is written: the list of outcomes, or an order with one of them.
 fn text_of(
     alloc: Global,
     asked: Asked,
@@ -71,20 +74,21 @@ fn text_of(
     found: &Exploration,
 ) -> Result<String, Fault>
     requires { is_config parts.now.config ≡ true }
-    ensures list { asked.show ≡ None → IfOk result (λ text. IsListOf asked found.now.walk found.now.table (string_bytes text)) }
+    ensures list { asked.show ≡ None → IfOk result (λ text. string_bytes text ≡ list_for asked parts.now found.now.walk (findings found.now)) }
     ensures why { IfErr result IsOfRun }
 {
     let rows = rows_of(alloc, &found.table)?;
     match asked.show {
         None => {
             let turns = (found.shortest, found.longest);
-            Ok(list(alloc, found.walk, asked.orders, turns, &rows)?)
+            let choice = parts.choice(asked.choice);
+            Ok(list(alloc, choice, found.walk, asked.orders, turns, &rows)?)
         }
         Some(number) => shown_order(alloc, script, goes, parts, schedule, &rows, number),
     }
 }
 
-/// How it ended.
+/// How the exploration ended.
 fn verdict_of(asked: Asked, found: &Exploration) -> Verdict
     ensures { result ≡ verdict_of asked found.now.walk (length found.now.table) }
 {
@@ -92,11 +96,32 @@ fn verdict_of(asked: Asked, found: &Exploration) -> Verdict
         Walk::All(_) => Verdict::All(found.table.len()),
         Walk::Stopped => Verdict::MoreOrders(asked.orders),
         Walk::TooDeep => Verdict::MoreTurns(asked.turns),
+        Walk::Sample(_) => Verdict::Sample(found.table.len()),
     }
 }
 
-/// Runs a script's work in every order of its actors' turns, and writes which outcomes there are, and how many orders
-/// give each.
+/// Runs the work in each order of its actors' turns, or in those of a sample.
+fn found_of(alloc: Global, parts: &Parts, asked: Asked) -> Result<Exploration, Fault>
+    requires limits { is_config parts.now.config ≡ true }
+    requires few { length parts.now.rows.items < 2 ^ 32 }
+    ensures found { IfOk result (λ found. IsFound asked parts.now found.walk (findings found)) }
+    ensures why { IfErr result IsOfRun }
+{
+    match asked.sample {
+        None => Ok(explore(alloc, parts, asked.choice, asked.turns, asked.orders)?),
+        Some(drawn) => Ok(sample(
+            alloc,
+            parts,
+            asked.choice,
+            asked.turns,
+            drawn.orders,
+            drawn.seed,
+        )?),
+    }
+}
+
+/// Runs a script's work in every order of its actors' turns, or in those of a sample. Writes which outcomes there are, and
+/// how many orders give each.
 pub fn explore_script<O: Write>(
     alloc: Global,
     asked: Asked,
@@ -113,7 +138,7 @@ pub fn explore_script<O: Write>(
     read.config.placement = asked.placement;
     let (parts, schedule, goes) = parts_of(alloc, script, read)?;
     try_setup(alloc, goes, &parts, &schedule)?;
-    let found = explore(alloc, &parts, asked.turns, asked.orders)?;
+    let found = found_of(alloc, &parts, asked)?;
     let text = text_of(alloc, asked, script, goes, &parts, &schedule, &found)?;
     match out.write_all(text.as_bytes()) {
         Ok(()) => Ok(verdict_of(asked, &found)),

@@ -12,7 +12,7 @@ use machine::command::{Actor, Step};
 use scripts::number_of;
 use std::alloc::{AllocError, Global};
 
-/// Who does the work of the actor's lines. Only what the shell does can't be taken apart: control does it.
+/// The actor that carries out this actor's lines in the work. The shell takes no turns, so control carries out its lines.
 fn worker_for(actor: Actor) -> Actor
     ensures { result ≡ worker_for actor }
 {
@@ -61,7 +61,7 @@ fn add_found(actors: &mut Vec<Actor>, found: Option<Actor>) -> Result<(), AllocE
     }
 }
 
-/// Whose command a line only begins.
+/// The actor whose command the line begins and does not end.
 fn left(said: &Said) -> Option<Actor>
     ensures { result ≡ left said.now }
 {
@@ -71,7 +71,7 @@ fn left(said: &Said) -> Option<Actor>
     }
 }
 
-/// Who does the work of a line.
+/// The actor that carries out the line in the work.
 fn worker(said: &Said) -> Option<Actor>
     ensures { result ≡ worker said.now }
 {
@@ -95,7 +95,7 @@ pub fn actors_of(alloc: Global, setup: &[Said], work: &[Said]) -> Result<Vec<Act
     Ok(actors)
 }
 
-/// What of a line the actor begins in the work.
+/// The step by which the actor begins the line in the work, if it carries out this line.
 fn begun(alloc: Global, actor: Actor, said: &Said) -> Result<Option<Step>, AllocError>
     ensures { IfOk result (λ step. step ≡ begun actor said.now) }
 {
@@ -111,7 +111,7 @@ fn begun(alloc: Global, actor: Actor, said: &Said) -> Result<Option<Step>, Alloc
     }
 }
 
-/// Adds what of a line the actor begins in the work, and the line's number.
+/// Adds the line's step and its number, if the row's actor carries out this line.
 fn add_begun(alloc: Global, row: &mut Row, line: &Said, number: usize) -> Result<(), AllocError>
     ensures { OnOk result (shown_row row.new ≡ with_line (shown_row row.old) line.now) }
 {

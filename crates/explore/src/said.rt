@@ -86,7 +86,7 @@ fn line_goes(line: &[u8]) -> bool
     words_go(words.as_slice())
 }
 
-/// How many of the first two steps are of the line with this number.
+/// How many of the first two steps belong to the line with this number.
 fn width(numbers: &[usize], number: usize) -> usize
     ensures is { result ≡ width numbers.now number }
     ensures within { result ≤ length numbers.now }
@@ -98,7 +98,7 @@ fn width(numbers: &[usize], number: usize) -> usize
     }
 }
 
-/// What is left of a list without its first items.
+/// The list without its first items.
 fn rest_of<T>(items: &[T], skipped: usize) -> &[T]
     ensures { result.now ≡ drop skipped items.now }
 {
@@ -109,7 +109,7 @@ fn rest_of<T>(items: &[T], skipped: usize) -> &[T]
     }
 }
 
-/// What a line asks for, if it has this number of the steps.
+/// What a line asks for. The first `width` steps are its own.
 fn said_by(alloc: Global, goes: bool, width: usize, steps: &[Step]) -> Result<Said, AllocError>
     ensures { IfOk result (λ said. said ≡ said_by goes width steps.now) }
 {

@@ -57,7 +57,7 @@ fn apart_in(said: &[Said]) -> Option<usize>
     said.iter().position(|line| is_apart(line))
 }
 
-/// The lines before the first `go`, and those behind it.
+/// The lines before the first `go`, and those after it.
 fn divided(said: &[Said]) -> (&[Said], &[Said])
     ensures before { result.0.now ≡ before_first goes said.now }
     ensures behind { result.1.now ≡ after_first goes said.now }
@@ -114,7 +114,7 @@ fn work_of(alloc: Global, setup: &[Said], work: &[Said], first: usize) -> Result
     Ok(rows_of(alloc, &actors, work, first)?)
 }
 
-/// The lines of a script, by the parts that they are in.
+/// The parts of a script, and where they end.
 #[derive(Drop)]
 struct Sorted {
     setup: Vec<Step>,
@@ -123,7 +123,7 @@ struct Sorted {
     goes: Goes,
 }
 
-/// Sorts the lines by the parts that they are in.
+/// Divides the lines into the parts of the script.
 fn sort_lines(alloc: Global, said: &[Said]) -> Result<Sorted, Fault>
     ensures sorted { IfOk result (AreSorted said.now) }
     ensures few { IfOk result (λ parts. length parts.rows.items < 2 ^ 32) }
@@ -141,7 +141,7 @@ fn sort_lines(alloc: Global, said: &[Said]) -> Result<Sorted, Fault>
     })
 }
 
-/// The parts of a script, what was read of it, and where its parts end.
+/// The parts of a script, its schedule, and the lines at which its parts end.
 pub fn parts_of(
     alloc: Global,
     text: &[u8],

@@ -13,7 +13,7 @@ use machine::command::{Answer, Reply, Step, Word};
 use schedules::{Entry, Schedule};
 use std::alloc::{AllocError, Global};
 
-/// A word that says that a line did not do what it asks for. A killed task is an event of the machine.
+/// The first answer that refuses the line, if there is one. A task that is killed is no refusal.
 fn refusal_in(alloc: Global, said: &[Reply]) -> Result<Option<String>, AllocError> {
     for reply in said {
         match &reply.answer {
@@ -69,7 +69,7 @@ fn try_lines(
     Ok(())
 }
 
-/// Whether each line of the setup does what it asks for. A line that is answered `killed` does not fail.
+/// Carries out the setup, to see whether a line of it fails. A line that is answered `killed` does not.
 pub fn try_setup(alloc: Global, goes: Goes, parts: &Parts, schedule: &Schedule) -> Result<(), Fault>
     requires { is_config parts.now.config ≡ true }
     ensures { IfErr result IsOfRun }

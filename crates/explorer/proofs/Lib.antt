@@ -2,3 +2,4 @@ pub mod TableRows
 pub mod WorkLemmas
 pub mod CarriedLemmas
 pub mod ExploredLemmas
+pub mod TurnsLemmas

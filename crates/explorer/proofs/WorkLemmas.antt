@@ -1,7 +1,10 @@
 -- The work, turn by turn.
-use Rattle.std.proofs.Common.{◌≡◌, ℕ, zero, suc, ◌+◌, ◌<◌, ◌≤◌, List, [], ◌∷◌, ◌++◌, length, get_or, Bool, true, false, Option, Some, None, refl, sym, ap, ◌∙◌, subst, arith, append_assoc, append-nil, Contains, take, zero-add}
+use Rattle.std.proofs.Common.{◌≡◌, ℕ, zero, suc, ◌+◌, ◌<◌, ◌≤◌, List, [], ◌∷◌, ◌++◌, length, get_or, Bool, true, false, Option, Some, None, refl, sym, ap, ◌∙◌, subst, arith, append_assoc, append-nil, Contains, take, zero-add, cond, ltb}
 use Rattle.std.proofs.lemmas.List.{length-take-le}
-use Rattle.std.specs.Prelude.{if◌then◌else◌}
+use Rattle.std.specs.Prelude.{if◌then◌else◌, position}
+use Rattle.std.specs.List.{position_or_len}
+use Rattle.std.proofs.lemmas.Bool.{ltb-true}
+use Rattle.machine.proofs.Values.{some_inj}
 use Rattle.std.specs.List.Sorted.{IsStrictlyIncreasing}
 use Rattle.machine.specs.declared.command.Step.{Step}
 use Rattle.machine.specs.declared.command.Step.TheVariants.{Advance}
@@ -11,7 +14,9 @@ use Rattle.driver.specs.Schedule.{World, Runs}
 use Rattle.driver.proofs.SinkLemmas.{Runs-then}
 use Rattle.orders.specs.Runs.{Run, Turn}
 use Rattle.explorer.specs.declared.parts.Row.{Row}
-use Rattle.explorer.specs.Work.{Point, is_ready, ready_from, ready_in, BeginsAt, GoesOn, AllGoOn, TakesTurn, Works}
+use Rattle.explorer.specs.declared.choice.Choice.{Choice}
+use Rattle.explorer.specs.declared.choice.Choice.TheVariants.{Any, DeviceFirst}
+use Rattle.explorer.specs.Work.{Point, is_ready, ready_from, ready_in, is_calling, caller_in, alone_or, eligible_in, BeginsAt, GoesOn, AllGoOn, TakesTurn, Works}
 
 -- ---- the steps are a run
 
@@ -37,27 +42,27 @@ all_go_on-run rows old zero steps answers new h =
 all_go_on-run rows old (suc count) steps answers new (earlier, last, said, later, mid, first, goes, e, f) =
     joined old.world earlier last steps said later answers mid.world new.world (all_go_on-run rows old count earlier said mid first) (goes_on-run rows mid count last later new goes) e f
 
-turn-run : (rows : List Row) (old : Point) (place : ℕ) (steps : List Step) (answers : List Told_by) (new : Point) → TakesTurn rows old place steps answers new → Runs old.world steps answers new.world
+pub turn-run : (rows : List Row) (old : Point) (place : ℕ) (steps : List Step) (answers : List Told_by) (new : Point) → TakesTurn rows old place steps answers new → Runs old.world steps answers new.world
 turn-run rows old place steps answers new h =
     joined old.world (Advance h.row.actor ∷ []) h.begins steps h.said h.later answers h.mid new.world h.advances (goes_on-run rows (record old { world = h.mid }) place h.begins h.later new h.goes_on) h.steps_are h.answers_are
 
-pub works-run : (rows : List Row) (old : Point) (run : Run) (steps : List Step) (answers : List Told_by) (new : Point) → Works rows old run steps answers new → Runs old.world steps answers new.world
-works-run rows old [] steps answers new h =
+pub works-run : (choice : Choice) (rows : List Row) (old : Point) (run : Run) (steps : List Step) (answers : List Told_by) (new : Point) → Works choice rows old run steps answers new → Runs old.world steps answers new.world
+works-run choice rows old [] steps answers new h =
     let P : List Step → Type 0 = λ (s : List Step). Runs old.world s answers new.world in
     subst P (sym h.0) (h.1, ap (λ (p : Point). p.world) h.2)
-works-run rows old (turn ∷ run) steps answers new (here, rest, said, later, mid, ready, among, takes, works, e, f) =
-    joined old.world here rest steps said later answers mid.world new.world (turn-run rows old turn.who here said mid takes) (works-run rows mid run rest later new works) e f
+works-run choice rows old (turn ∷ run) steps answers new (here, rest, said, later, mid, ready, among, takes, works, e, f) =
+    joined old.world here rest steps said later answers mid.world new.world (turn-run rows old turn.who here said mid takes) (works-run choice rows mid run rest later new works) e f
 
 -- ---- one turn more
 
-pub works-more : (rows : List Row) (old : Point) (run : Run) (steps : List Step) (answers : List Told_by) (mid : Point) (turn : Turn) (here : List Step) (said : List Told_by) (new : Point)
-    → Works rows old run steps answers mid → turn.ready ≡ ready_in rows mid.world → Contains turn.ready turn.who → TakesTurn rows mid turn.who here said new
-    → Works rows old (run ++ turn ∷ []) (steps ++ here) (answers ++ said) new
-works-more rows old [] steps answers mid turn here said new h ready among takes =
-    let P : Point → Type 0 = λ (p : Point). Works rows p (turn ∷ []) (steps ++ here) (answers ++ said) new in
+pub works-more : (choice : Choice) (rows : List Row) (old : Point) (run : Run) (steps : List Step) (answers : List Told_by) (mid : Point) (turn : Turn) (here : List Step) (said : List Told_by) (new : Point)
+    → Works choice rows old run steps answers mid → turn.ready ≡ eligible_in choice rows mid.world → Contains turn.ready turn.who → TakesTurn rows mid turn.who here said new
+    → Works choice rows old (run ++ turn ∷ []) (steps ++ here) (answers ++ said) new
+works-more choice rows old [] steps answers mid turn here said new h ready among takes =
+    let P : Point → Type 0 = λ (p : Point). Works choice rows p (turn ∷ []) (steps ++ here) (answers ++ said) new in
     subst P h.2 (here, [], said, [], new, ready, among, takes, (refl, refl, refl), ap (λ (s : List Step). s ++ here) h.0 ∙ sym (append-nil here), ap (λ (r : List Told_by). r ++ said) h.1 ∙ sym (append-nil said))
-works-more rows old (first ∷ run) steps answers mid turn here said new (a, rest, x, later, p, r, m, t, works, e, f) ready among takes =
-    (a, rest ++ here, x, later ++ said, p, r, m, t, works-more rows p run rest later mid turn here said new works ready among takes, ap (λ (s : List Step). s ++ here) e ∙ append_assoc a rest here, ap (λ (l : List Told_by). l ++ said) f ∙ append_assoc x later said)
+works-more choice rows old (first ∷ run) steps answers mid turn here said new (a, rest, x, later, p, r, m, t, works, e, f) ready among takes =
+    (a, rest ++ here, x, later ++ said, p, r, m, t, works-more choice rows p run rest later mid turn here said new works ready among takes, ap (λ (s : List Step). s ++ here) e ∙ append_assoc a rest here, ap (λ (l : List Told_by). l ++ said) f ∙ append_assoc x later said)
 
 -- ---- who is ready
 
@@ -125,3 +130,43 @@ ready-step world rows k row before after lt one e f =
     f ∙ (ap (λ (l : List ℕ). l ++ last k) e
     ∙ (sym (ready-more 0 world.seats (take k rows) row ∙ ap (λ (n : ℕ). ready_in (take k rows) world ++ last n) all)
     ∙ ap (λ (l : List Row). ready_in l world) (sym one)))
+
+-- ---- who can take the next turn
+
+found_by : (place len k : ℕ) (t : Bool) → ltb place len ≡ t → cond t (Some place) None ≡ Some k → k < len
+found_by place len k true e h =
+    let P : ℕ → Type 0 = λ (n : ℕ). n < len in
+    subst P (some_inj h) (ltb-true _ _ e)
+found_by place len k false e h = cc
+
+pub found-within : {X : Type 0} (test : X → Bool) (xs : List X) (k : ℕ) → position test xs ≡ Some k → k < length xs
+found-within test xs k e = found_by (position_or_len test xs) (length xs) k (ltb (position_or_len test xs) (length xs)) refl e
+
+alone-is : (place who : ℕ) → Contains (place ∷ []) who → who ≡ place
+alone-is place who (zero, lt, e) = sym e
+alone-is place who (suc k, lt, e) = absurd (omega arith)
+
+-- one that can take it is a row's
+pub eligible-row : (choice : Choice) (world : World) (rows : List Row) (who : ℕ) → Contains (eligible_in choice rows world) who → who < length rows
+eligible-row Any world rows who h = ready-row world rows who h
+eligible-row DeviceFirst world rows who h = at (caller_in rows world) refl h
+  where
+    at : (o : Option ℕ) → caller_in rows world ≡ o → Contains (alone_or o (ready_in rows world)) who → who < length rows
+    at None e k = ready-row world rows who k
+    at (Some place) e k =
+        let P : ℕ → Type 0 = λ (n : ℕ). n < length rows in
+        subst P (sym (alone-is place who k)) (found-within (is_calling world.seats) rows place e)
+
+-- with nobody who can take it, nobody is ready
+pub eligible-none : (choice : Choice) (rows : List Row) (world : World) → [] ≡ eligible_in choice rows world → [] ≡ ready_in rows world
+eligible-none Any rows world h = h
+eligible-none DeviceFirst rows world h = at (caller_in rows world) h
+  where
+    at : (o : Option ℕ) → [] ≡ alone_or o (ready_in rows world) → [] ≡ ready_in rows world
+    at None k = k
+    at (Some place) k = cc
+
+pub alone-rising : (places : List ℕ) (place : ℕ) → places ≡ place ∷ [] → IsStrictlyIncreasing places
+alone-rising places place e =
+    let P : List ℕ → Type 0 = λ (l : List ℕ). IsStrictlyIncreasing l in
+    subst P (sym e) (λ k lt. absurd (omega arith))

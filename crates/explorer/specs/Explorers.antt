@@ -8,9 +8,13 @@ use Rattle.driver.specs.Schedule.{World, first_world, fits, Runs, Schedules}
 use Rattle.orders.specs.Runs.{Run, path_of_run}
 use Rattle.explorer.specs.declared.parts.Parts.{Parts}
 use Rattle.explorer.specs.declared.parts.Row.{Row}
-use Rattle.explorer.specs.Work.{AllGoOn, ready_in}
+use Rattle.explorer.specs.declared.choice.Choice.{Choice}
+use Rattle.explorer.specs.Work.{AllGoOn, eligible_in}
 use Rattle.explorer.specs.Outcome.{at_go, Reaches}
 use Rattle.explorer.specs.Carried.{at}
+use Rattle.explorer.specs.Tally.{Counted}
+use Rattle.explorer.specs.Turns.{Keeps}
+use Rattle.explorer.specs.Explored.{Counts}
 
 -- the setup was carried out, and then each actor began its first line
 pub record Starts (parts : Parts) (old : World) (begun : List ℕ) (said : List Told_by) (new : World) : Type 0 where
@@ -20,26 +24,37 @@ pub record Starts (parts : Parts) (old : World) (begun : List ℕ) (said : List 
   pub sets_up : Runs old parts.setup.items setup_answers set_up
   pub begins : AllGoOn parts.rows.items (at_go parts.rows.items set_up) (length parts.rows.items) first_steps said (at new begun)
 
+-- these steps are a schedule that ends in this world
+pub record EndsAt (config : Config) (disk : Disk) (steps : List Step) (answers : List Told_by) (end : World) : Type 0 where
+  pub schedules : Schedules config disk steps answers end.disk
+  pub ends : schedules.end ≡ end
+
 -- the looks were carried out in this world, and whatever steps led there, they and the looks are a schedule
 pub record LooksAt (world : World) (looks : List Step) (before after : List Told_by) : Type 0 where
   pub answers : List Told_by
-  pub end : Disk
+  pub end : World
   pub adds : after ≡ before ++ answers
-  pub closes : (config : Config) (disk : Disk) (steps : List Step) (earlier : List Told_by) → fits config disk ≡ true → Runs (first_world config disk) steps earlier world → Schedules config disk (steps ++ looks) (earlier ++ answers) end
+  pub runs : Runs world looks answers end
+  pub closes : (config : Config) (disk : Disk) (steps : List Step) (earlier : List Told_by) → fits config disk ≡ true → Runs (first_world config disk) steps earlier world → EndsAt config disk (steps ++ looks) (earlier ++ answers) end
 
 -- these turns of an order led to this world
-pub record Came (parts : Parts) (run : Run) (world : World) (begun : List ℕ) (said : List Told_by) (path : List ℕ) : Type 0 where
+pub record Came (choice : Choice) (parts : Parts) (run : Run) (world : World) (begun : List ℕ) (said : List Told_by) (path : List ℕ) : Type 0 where
   pub steps : List Step
   pub answers : List Told_by
-  pub reaches : Reaches parts run steps answers said (at world begun)
+  pub reaches : Reaches choice parts run steps answers said (at world begun)
   pub path_is : path ≡ path_of_run run
 
 -- an explorer's run, if there is one, is at the end of these turns
-abbrev pub IsAt : Option World → Parts → Run → List ℕ → List Told_by → List ℕ → Type 0
-IsAt None parts run begun said path = ⊥
-IsAt (Some world) parts run begun said path = Came parts run world begun said path
+abbrev pub IsAt : Option World → Choice → Parts → Run → List ℕ → List Told_by → List ℕ → Type 0
+IsAt None choice parts run begun said path = ⊥
+IsAt (Some world) choice parts run begun said path = Came choice parts run world begun said path
 
--- the places of the actors that are ready in it
-abbrev pub ready_now : Option World → List Row → List ℕ
-ready_now None rows = []
-ready_now (Some world) rows = ready_in rows world
+-- the places of the actors that can take the next turn in it
+abbrev pub eligible_now : Option World → Choice → List Row → List ℕ
+eligible_now None choice rows = []
+eligible_now (Some world) choice rows = eligible_in choice rows world
+
+-- what it keeps of these runs
+pub record Gathers (choice : Choice) (parts : Parts) (runs : List Run) (rows : List Counted) (shortest longest : ℕ) : Type 0 where
+  pub counts : Counts choice parts runs rows
+  pub keeps : Keeps runs shortest longest

@@ -2,6 +2,7 @@ pub mod Work
 pub mod Lines
 pub mod Outcome
 pub mod Tally
+pub mod Turns
 pub mod Tables
 pub mod Carried
 pub mod Explorers

@@ -8,6 +8,12 @@ pub record Counted : Type 0 where
   pub orders : ℕ
   pub first : List ℕ
 
+-- what is found of some orders: their outcomes, and how many turns the shortest and the longest of them have
+pub record Findings : Type 0 where
+  pub rows : List Counted
+  pub shortest : ℕ
+  pub longest : ℕ
+
 -- another order gives this outcome. (Excludes an order that is counted twice or not at all, and another outcome's first order.)
 abbrev pub with_order : List Counted → List ℕ → List ℕ → List Counted
 with_order [] outcome path = record { outcome = outcome; orders = 1; first = path } ∷ []

@@ -1,13 +1,16 @@
 -- The work of an order: whose turns are taken, and which commands the actors begin.
 use Rattle.std.specs.Prelude.{◌≡◌, ℕ, zero, suc, ◌+◌, Bool, List, [], ◌∷◌, ◌++◌, Option, Some, None, Contains, slice_get, slice_index, slice_set, if◌then◌else◌}
+use Rattle.std.specs.List.{position}
 use Rattle.machine.specs.declared.command.Step.{Step}
 use Rattle.machine.specs.declared.command.Step.TheVariants.{Advance}
 use Rattle.machine.specs.declared.command.Reply.{Reply as Told_by}
 use Rattle.driver.specs.declared.seat.Seat.{Seat}
 use Rattle.driver.specs.Schedule.{World, activity_of, Runs}
-use Rattle.driver.specs.Seats.{is_under_way}
+use Rattle.driver.specs.Seats.{is_under_way, calls_device}
 use Rattle.orders.specs.Runs.{Run}
 use Rattle.explorer.specs.declared.parts.Row.{Row}
+use Rattle.explorer.specs.declared.choice.Choice.{Choice}
+use Rattle.explorer.specs.declared.choice.Choice.TheVariants.{Any, DeviceFirst}
 
 -- a point of an order: the world, and for each row how many of its lines were begun
 pub record Point : Type 0 where
@@ -28,6 +31,26 @@ ready_from place seats (row ∷ rows) =
 
 abbrev pub ready_in : List Row → World → List ℕ
 ready_in rows world = ready_from 0 world.seats rows
+
+-- ---- who can take the next turn
+
+-- the next turn of the row's actor is a call of the device
+abbrev pub is_calling : List Seat → Row → Bool
+is_calling seats row = calls_device (activity_of row.actor seats)
+
+-- the place of the first such row
+abbrev pub caller_in : List Row → World → Option ℕ
+caller_in rows world = position (is_calling world.seats) rows
+
+abbrev pub alone_or : Option ℕ → List ℕ → List ℕ
+alone_or None ready = ready
+alone_or (Some place) ready = place ∷ []
+
+-- the places of the actors that can take the next turn: all that are ready; or, with device calls first, only the first that is about to call the device, if
+-- there is one. (Excludes a second such actor, and others beside the first.)
+abbrev pub eligible_in : Choice → List Row → World → List ℕ
+eligible_in Any rows world = ready_in rows world
+eligible_in DeviceFirst rows world = alone_or (caller_in rows world) (ready_in rows world)
 
 -- ---- what an actor begins
 
@@ -68,9 +91,9 @@ pub record TakesTurn (rows : List Row) (old : Point) (place : ℕ) (steps : List
   pub steps_are : steps ≡ Advance row.actor ∷ begins
   pub answers_are : answers ≡ said ++ later
 
--- these turns are taken. At each of them the ready actors are those with a command under way, and one of them takes the turn. (Excludes an actor that is never
--- ready, one that is ready with nothing to do, and a turn that is not counted.)
-abbrev pub Works : List Row → Point → Run → List Step → List Told_by → Point → Type 0
-Works rows old [] steps answers new = (steps ≡ []) × (answers ≡ []) × (new ≡ old)
-Works rows old (turn ∷ run) steps answers new =
-    (here : List Step) × (rest : List Step) × (said : List Told_by) × (later : List Told_by) × (mid : Point) × (turn.ready ≡ ready_in rows old.world) × Contains turn.ready turn.who × TakesTurn rows old turn.who here said mid × Works rows mid run rest later new × (steps ≡ here ++ rest) × (answers ≡ said ++ later)
+-- these turns are taken. At each of them the choice says who can take it, and one of these actors does. (Excludes an actor that never takes a turn, one that
+-- does with nothing to do, and a turn that is not counted.)
+abbrev pub Works : Choice → List Row → Point → Run → List Step → List Told_by → Point → Type 0
+Works choice rows old [] steps answers new = (steps ≡ []) × (answers ≡ []) × (new ≡ old)
+Works choice rows old (turn ∷ run) steps answers new =
+    (here : List Step) × (rest : List Step) × (said : List Told_by) × (later : List Told_by) × (mid : Point) × (turn.ready ≡ eligible_in choice rows old.world) × Contains turn.ready turn.who × TakesTurn rows old turn.who here said mid × Works choice rows mid run rest later new × (steps ≡ here ++ rest) × (answers ≡ said ++ later)

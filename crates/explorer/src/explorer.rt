@@ -4,14 +4,16 @@ ghost use Rattle.std.specs.Prelude.{◌≡◌, ◌<◌, ◌^◌, [], true, lengt
 ghost use Rattle.orders.specs.Runs.{Run};
 ghost use Rattle.machine.specs.State.{is_config};
 ghost use Rattle.driver.specs.Schedule.{first_world, fits};
-ghost use Rattle.explorer.specs.Outcome.{disk_of};
-ghost use Rattle.explorer.specs.Explored.{Counts, Explored};
-ghost use Rattle.explorer.specs.Explorers.{Starts, LooksAt, IsAt, ready_now};
+ghost use Rattle.explorer.specs.Outcome.{disk_of, choice_in};
+ghost use Rattle.explorer.specs.Explored.{findings, Explored, Sampled};
+ghost use Rattle.explorer.specs.Explorers.{Starts, LooksAt, IsAt, Gathers, eligible_now};
+ghost use Rattle.explorer.specs.Turns.{Keeps};
 
+use crate::choice::Choice;
 use crate::copies::copy_of_config;
 use crate::outcome::outcome_of;
 use crate::parts::Parts;
-use crate::plan::{all_go_on, carry_out, ready_of, take_turn};
+use crate::plan::{all_go_on, carry_out, eligible_of, take_turn};
 use crate::table::Table;
 use block_store::MemDevice;
 use driver::Stepper;
@@ -20,7 +22,7 @@ use machine::command::{Reply, Step};
 use orders::Fault;
 use std::alloc::{AllocError, Global};
 use std::mem;
-use walks::{Machine, Walk, walk_all};
+use walks::{Machine, Walk, walk_all, walk_some};
 
 /// A new run of the machine, before its first step.
 pub fn open_run(alloc: Global, parts: &Parts) -> Result<Stepper<MemDevice>, AllocError>
@@ -84,6 +86,8 @@ fn look(run: Stepper<MemDevice>, looks: &[Step], looked: &mut Vec<Reply>) -> Res
 struct Explorer<'p> {
     alloc: Global,
     parts: &'p Parts,
+    /// Who can take the next turn.
+    choice: Choice,
     /// The current order's run.
     run: Option<Stepper<MemDevice>>,
     /// For each row, how many of its lines were begun.
@@ -104,17 +108,20 @@ struct Explorer<'p> {
 
 impl<'p> Explorer<'p> {
     /// Nothing was run yet.
-    fn new(alloc: Global, parts: &'p Parts) -> Result<Self, AllocError>
+    fn new(alloc: Global, parts: &'p Parts, choice: Choice) -> Result<Self, AllocError>
         requires limits { is_config parts.now.config ≡ true }
         requires few { length parts.now.rows.items < 2 ^ 32 }
         ensures parts { IfOk result (λ new. new.parts.now ≡ parts.now) }
+        ensures choice { IfOk result (λ new. new.choice ≡ choice) }
         ensures table { IfOk result (λ new. new.table ≡ []) }
+        ensures turns { IfOk result (λ new. Keeps [] new.shortest new.longest) }
     {
         let mut begun = Vec::new(alloc);
         begun.resize(parts.rows.len(), 0)?;
         Ok(Explorer {
             alloc,
             parts,
+            choice,
             run: None,
             begun,
             said: Vec::new(alloc),
@@ -127,11 +134,14 @@ impl<'p> Explorer<'p> {
 
     /// The outcomes, and how long the shortest and the longest order were.
     fn close(self) -> (Table, usize, usize)
-        ensures { result.0 ≡ self.entry.table }
+        ensures table { result.0 ≡ self.entry.table }
+        ensures shortest { result.1 ≡ self.entry.shortest }
+        ensures longest { result.2 ≡ self.entry.longest }
     {
         let Explorer {
             alloc: _,
             parts: _,
+            choice: _,
             run,
             begun: _,
             said: _,
@@ -146,13 +156,13 @@ impl<'p> Explorer<'p> {
 }
 
 impl<'p> Machine for Explorer<'p> {
-    ghost came = { λ m run. IsAt m.run m.parts.now run m.begun.items m.said.items m.path.items };
+    ghost came = { λ m run. IsAt m.run m.choice m.parts.now run m.begun.items m.said.items m.path.items };
 
-    ghost may = { λ m ready. ready ≡ ready_now m.run m.parts.now.rows.items };
+    ghost may = { λ m ready. ready ≡ eligible_now m.run m.choice m.parts.now.rows.items };
 
-    ghost gathered = { λ m runs. Counts m.parts.now runs m.table };
+    ghost gathered = { λ m runs. Gathers m.choice m.parts.now runs m.table m.shortest m.longest };
 
-    ghost stays = { λ a b. b.parts.now ≡ a.parts.now };
+    ghost stays = { λ a b. (b.parts.now ≡ a.parts.now) × (b.choice ≡ a.choice) };
 
     fn begin(&mut self) -> Result<(), AllocError> {
         let mut run = open_run(self.alloc, self.parts)?;
@@ -164,7 +174,7 @@ impl<'p> Machine for Explorer<'p> {
 
     fn ready(&self, alloc: Global) -> Result<Vec<u32>, AllocError> {
         match &self.run {
-            Some(run) => ready_of(alloc, run, &self.parts.rows),
+            Some(run) => eligible_of(alloc, self.choice, run, &self.parts.rows),
             None => Ok(Vec::new(alloc)),
         }
     }
@@ -189,16 +199,17 @@ impl<'p> Machine for Explorer<'p> {
         look(run, &self.parts.looks, &mut looked)?;
         let outcome = outcome_of(self.alloc, &self.parts.rows, &self.said, &looked)?;
         self.table.add(outcome, &self.path)?;
-        self.shortest = self.shortest.min(self.path.len());
-        self.longest = self.longest.max(self.path.len());
+        let turns = self.path.len();
+        self.shortest = self.shortest.min(turns);
+        self.longest = self.longest.max(turns);
         Ok(())
     }
 
     ghost use Rattle.std.proofs.Common.{refl, ◌∙◌};
 
-    ghost same = { λ m. refl };
+    ghost same = { λ m. (refl, refl) };
 
-    ghost further = { λ a b c first second. second ∙ first };
+    ghost further = { λ a b c first second. (second.0 ∙ first.0, second.1 ∙ first.1) };
 }
 
 /// What was found of the orders.
@@ -213,16 +224,48 @@ pub struct Exploration {
 }
 
 /// Runs the machine once for each order of the work: at most `orders` orders, each of at most `turns` turns. Each order
-/// begins with a new machine.
+/// begins with a new machine. The choice says which orders these are. If a call of the device can fail, they are all,
+/// whatever the choice.
 ///
 /// It fails if memory runs out, or with `Changed` if other actors were ready than before after the same turns.
-pub fn explore(alloc: Global, parts: &Parts, turns: u32, orders: u64) -> Result<Exploration, Fault>
+pub fn explore(
+    alloc: Global,
+    parts: &Parts,
+    choice: Choice,
+    turns: u32,
+    orders: u64,
+) -> Result<Exploration, Fault>
     requires limits { is_config parts.now.config ≡ true }
     requires few { length parts.now.rows.items < 2 ^ 32 }
-    ensures { IfOk result (λ found. Explored parts.now turns orders found.walk found.table) }
+    ensures { IfOk result (λ found. Explored (choice_in parts.now choice) parts.now turns orders found.walk (findings found)) }
 {
-    let mut explorer = Explorer::new(alloc, parts)?;
+    let mut explorer = Explorer::new(alloc, parts, parts.choice(choice))?;
     let walked = walk_all(alloc, &mut explorer, turns as usize, orders);
+    let (table, shortest, longest) = explorer.close();
+    Ok(Exploration {
+        walk: walked?,
+        table,
+        shortest,
+        longest,
+    })
+}
+
+/// Runs the machine for this number of orders of the work, each of at most `turns` turns. At each point of an order one of
+/// the actors that can take the next turn is drawn at random. The same seed draws the same orders.
+pub fn sample(
+    alloc: Global,
+    parts: &Parts,
+    choice: Choice,
+    turns: u32,
+    orders: u64,
+    seed: u64,
+) -> Result<Exploration, AllocError>
+    requires limits { is_config parts.now.config ≡ true }
+    requires few { length parts.now.rows.items < 2 ^ 32 }
+    ensures { IfOk result (λ found. Sampled (choice_in parts.now choice) parts.now turns orders found.walk (findings found)) }
+{
+    let mut explorer = Explorer::new(alloc, parts, parts.choice(choice))?;
+    let walked = walk_some(alloc, &mut explorer, turns as usize, orders, seed);
     let (table, shortest, longest) = explorer.close();
     Ok(Exploration {
         walk: walked?,

@@ -1,5 +1,9 @@
 //! What is explored.
 
+ghost use Rattle.std.specs.Prelude.{◌≡◌};
+ghost use Rattle.explorer.specs.Outcome.{no_call_fails, choice_in};
+
+use crate::choice::Choice;
 use machine::command::{Actor, Step};
 use machine::config::Config;
 
@@ -27,4 +31,25 @@ pub struct Parts {
     pub rows: Vec<Row>,
     /// What is done after the work, in sequence.
     pub looks: Vec<Step>,
+}
+
+impl Parts {
+    /// Whether no call of the device fails.
+    fn no_call_fails(&self) -> bool
+        ensures { result ≡ no_call_fails self.now }
+    {
+        self.read_faults.is_empty() && self.write_faults.is_empty()
+    }
+
+    /// Who can take the next turn, if this was asked for. If a call of the device can fail, the order of the calls says
+    /// which one does. Then device calls don't come first.
+    pub fn choice(&self, asked: Choice) -> Choice
+        ensures { result ≡ choice_in self.now asked }
+    {
+        if self.no_call_fails() {
+            asked
+        } else {
+            Choice::Any
+        }
+    }
 }

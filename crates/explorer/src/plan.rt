@@ -2,17 +2,31 @@
 
 ghost use Rattle.std.specs.Prelude.{◌≡◌, ◌+◌, ◌++◌, ◌∷◌, ◌<◌, ◌^◌, [], length, IfOk, OnOk, IsSome, if◌then◌else◌};
 ghost use Rattle.std.specs.Option.{option_copied};
+ghost use Rattle.std.specs.List.{position};
 ghost use Rattle.std.specs.List.Sorted.{IsStrictlyIncreasing};
-ghost use Rattle.explorer.specs.Work.{is_ready, next_of, ready_in};
+ghost use Rattle.explorer.specs.Work.{is_ready, next_of, ready_in, caller_in, eligible_in};
 ghost use Rattle.explorer.specs.Carried.{Carries, Goes, GoesAll, Turns};
 
+use crate::choice::Choice;
 use crate::parts::Row;
 use block_store::MemDevice;
 use driver::Stepper;
-use machine::command::{Actor, Reply, Step};
+use machine::command::{Actor, Answer, Reply, Step, Word};
+use machine::refusal::Refusal;
 use std::alloc::{AllocError, Global};
 
-/// Carries out one step.
+/// Whether the last answer is that memory ran out for the command.
+fn lacks_memory(said: &[Reply]) -> bool {
+    match said.last() {
+        Some(reply) => match &reply.answer {
+            Answer::Word(Word::Refused(Refusal::NoMemory)) => true,
+            _ => false,
+        },
+        None => false,
+    }
+}
+
+/// Carries out one step. It fails if memory runs out, also for the command alone: an order has no such outcome.
 pub fn carry_one(
     run: &mut Stepper<MemDevice>,
     step: &Step,
@@ -21,6 +35,7 @@ pub fn carry_one(
     ensures { OnOk result (Carries run.old (step.now ∷ []) said.old.items said.new.items run.new) }
 {
     match run.step(0, step, said) {
+        Ok(()) if lacks_memory(said) => Err(AllocError),
         Ok(()) => Ok(()),
         // The list of answers is closed only if memory ran out.
         Err(_) => Err(AllocError),
@@ -141,11 +156,7 @@ fn add_if_ready(
 }
 
 /// The places of the actors that have a command under way.
-pub fn ready_of(
-    alloc: Global,
-    run: &Stepper<MemDevice>,
-    rows: &[Row],
-) -> Result<Vec<u32>, AllocError>
+fn ready_of(alloc: Global, run: &Stepper<MemDevice>, rows: &[Row]) -> Result<Vec<u32>, AllocError>
     requires { length rows.now < 2 ^ 32 }
     ensures ready { IfOk result (λ ready. ready.items ≡ ready_in rows.now run.now) }
     ensures rising { IfOk result (λ ready. IsStrictlyIncreasing ready.items) }
@@ -155,4 +166,40 @@ pub fn ready_of(
         add_if_ready(run, row, place as u32, &mut ready)?;
     }
     Ok(ready)
+}
+
+/// The place of the first actor whose next turn is a call of the device.
+fn caller_of(run: &Stepper<MemDevice>, rows: &[Row]) -> Option<usize>
+    ensures { result ≡ caller_in rows.now run.now }
+{
+    rows.iter().position(|row| run.calls_device(row.actor))
+}
+
+/// This place alone.
+fn alone(alloc: Global, place: u32) -> Result<Vec<u32>, AllocError>
+    ensures { IfOk result (λ places. places.items ≡ place ∷ []) }
+{
+    let mut places = Vec::new(alloc);
+    places.push(place)?;
+    Ok(places)
+}
+
+/// The places of the actors that can take the next turn.
+pub fn eligible_of(
+    alloc: Global,
+    choice: Choice,
+    run: &Stepper<MemDevice>,
+    rows: &[Row],
+) -> Result<Vec<u32>, AllocError>
+    requires { length rows.now < 2 ^ 32 }
+    ensures eligible { IfOk result (λ places. places.items ≡ eligible_in choice rows.now run.now) }
+    ensures rising { IfOk result (λ places. IsStrictlyIncreasing places.items) }
+{
+    match choice {
+        Choice::Any => ready_of(alloc, run, rows),
+        Choice::DeviceFirst => match caller_of(run, rows) {
+            Some(place) => alone(alloc, place as u32),
+            None => ready_of(alloc, run, rows),
+        },
+    }
 }

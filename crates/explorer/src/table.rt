@@ -90,18 +90,4 @@ impl Table {
     {
         self.rows.get_index(place)
     }
-
-    /// The places of the outcomes: those that more orders give come first, and of two with the same count the one that
-    /// appeared first.
-    pub fn ranked(&self, alloc: Global) -> Result<Vec<usize>, AllocError> {
-        let mut places = Vec::new(alloc);
-        for place in 0..self.len() {
-            places.push(place)?;
-        }
-        places.sort_by_key(|place| match self.get(*place) {
-            Some((_, found)) => u64::MAX.saturating_sub(found.orders),
-            None => u64::MAX,
-        })?;
-        Ok(places)
-    }
 }

@@ -400,6 +400,51 @@ fn links_make_audits_quick(rt: HostRuntime) -> Result<(), Fail> {
     Ok(())
 }
 
+/// A page is written to, written out and read in, this many times. Each time another byte is written.
+fn swapped(alloc: Global, rounds: u32) -> Result<Trace, AllocError> {
+    let mut trace = opened(alloc, 30_000)?;
+    add(&mut trace, spawned(1));
+    for round in 0..rounds {
+        add(&mut trace, written(1, FIRST, (round % 256) as u8));
+        add(&mut trace, fetched(1, FIRST, round));
+        add(&mut trace, arrived(alloc, round, 0, (round % 256) as u8)?);
+    }
+    Ok(trace)
+}
+
+// A walk back from an arrival ends at the arrival before it, so its length does not grow with the number of arrivals.
+#[test]
+fn arrivals_make_audits_quick(rt: HostRuntime) -> Result<(), Fail> {
+    let few = quickest(&rt, &swapped(rt.alloc(), 1000)?)?;
+    let many = quickest(&rt, &swapped(rt.alloc(), 8000)?)?;
+    assert!(rt; many < few.saturating_mul(20));
+    Ok(())
+}
+
+// Behind two honest arrivals, a wrong one is named: it has a byte of the first one, the byte that was written before
+// its read-in is missing, or nothing was written.
+#[test]
+fn a_wrong_arrival_behind_honest_ones_is_named(rt: HostRuntime) -> Result<(), Fail> {
+    let mut trace = swapped(rt.alloc(), 2)?;
+    add(&mut trace, fetched(1, FIRST, 2));
+    add(&mut trace, arrived(rt.alloc(), 2, 0, 0)?);
+    assert_eq!(rt; audit(&trace), Err(First { entry: 9 }));
+    let mut trace = swapped(rt.alloc(), 2)?;
+    add(&mut trace, written(1, SECOND, 5));
+    add(&mut trace, fetched(1, FIRST, 2));
+    add(&mut trace, arrived(rt.alloc(), 2, 0, 1)?);
+    assert_eq!(rt; audit(&trace), Err(First { entry: 10 }));
+    let mut trace = swapped(rt.alloc(), 2)?;
+    add(&mut trace, fetched(1, FIRST, 2));
+    add(&mut trace, arrived(rt.alloc(), 2, 0, 1)?);
+    add(&mut trace, read(1, FIRST, 1));
+    add(&mut trace, read(1, SECOND, 0));
+    assert_eq!(rt; audit(&trace), Ok(()));
+    add(&mut trace, read(1, SECOND, 1));
+    assert_eq!(rt; audit(&trace), Err(First { entry: 12 }));
+    Ok(())
+}
+
 // A task with the number of one that ended or was killed begins with zeros. No memory was asked for its links.
 #[test]
 fn a_number_of_a_task_that_ended_is_audited(rt: HostRuntime) -> Result<(), Fail> {

@@ -1,5 +1,5 @@
 -- What is so at the end, when all seats are brought together.
-use Rattle.std.proofs.Common.{◌≡◌, ◌≢◌, ℕ, zero, suc, ◌+◌, ◌<◌, ◌≤◌, List, [], ◌∷◌, ◌++◌, map, length, reverse, get_or, All, sym, refl, ap, ◌∙◌, subst, arith, append_assoc}
+use Rattle.std.proofs.Common.{◌≡◌, ◌≢◌, ℕ, zero, suc, ◌+◌, ◌<◌, ◌≤◌, List, [], ◌∷◌, ◌++◌, map, length, reverse, get_or, All, Option, sym, refl, ap, ◌∙◌, subst, arith, append_assoc}
 use Rattle.std.specs.Prelude.{AllPairs}
 use Rattle.std.specs.List.{sum_by}
 use Rattle.std.proofs.lemmas.List.Sums.{sum_by-cons}
@@ -23,6 +23,8 @@ use Rattle.live.specs.Matching.{told_of, answers_of, AreApart, Matches}
 use Rattle.live.specs.Logs.{LogOf}
 use Rattle.live.specs.OneRun.{Act, Leads, told_in, IsOneRun, WereGiven}
 use Rattle.live.specs.Shared.{IsShared}
+use Rattle.live.specs.declared.looks.EndLook.{EndLook}
+use Rattle.live.specs.Looks.{end_look, EndsLooked}
 use Rattle.live.proofs.ActLemmas.{entry_weight, told-trace, weight-trace}
 use Rattle.live.proofs.GivenLemmas.{passes-given}
 use Rattle.live.proofs.ToldLemmas.{times-own, times-less}
@@ -143,17 +145,24 @@ module _ (table : TableId) (opening : Opening) (past : Past) (log : LogOf) (shar
   pub run-counted : length entries ≡ sum_by (λ (pass : PassOf). entries_in pass.exchanges) passes
   run-counted = counted opening shared.acts past shared.leads entries trace passes all-told all-apart all-weight
 
-  pub one-run : IsOneRun opening entries passes
-  one-run = record {
-    acts = shared.acts;
-    past = past;
-    leads = shared.leads;
-    trace = trace;
-    given = (let long = length-rows passes in let few = all.few in let given = shared.given in omega (arith, most, long, few, given, given-is));
-    each = all-told;
-    apart = all-apart;
-    all = whole opening shared.acts past shared.leads entries trace passes all-told all-apart all-weight;
+  -- what was looked at is that run's
+  pub run-looked : (paths : List (List ℕ)) (looks : List (Option EndLook)) → looks ≡ map (end_look past.state) paths → EndsLooked opening entries passes paths looks
+  run-looked paths looks is = record {
+    run = record {
+      acts = shared.acts;
+      past = past;
+      leads = shared.leads;
+      trace = trace;
+      given = (let long = length-rows passes in let few = all.few in let given = shared.given in omega (arith, most, long, few, given, given-is));
+      each = all-told;
+      apart = all-apart;
+      all = whole opening shared.acts past shared.leads entries trace passes all-told all-apart all-weight;
+    };
+    looks_are = is;
   }
+
+  pub one-run : IsOneRun opening entries passes
+  one-run = (run-looked [] [] refl).run
 
   pub run-each : All (λ (pass : PassOf). WereGiven opening (reverse entries) pass.caller.worker pass.exchanges) passes
   run-each = passes-given opening shared.acts past (reverse entries) passes shared.leads trace all-told

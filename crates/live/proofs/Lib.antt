@@ -11,3 +11,4 @@ mod EndLemmas
 mod GivenLemmas
 mod HandLemmas
 mod StageLemmas
+mod LookLemmas

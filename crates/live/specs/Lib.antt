@@ -12,3 +12,4 @@ pub mod Logs
 pub mod Hands
 pub mod OneRun
 pub mod Shared
+pub mod Looks

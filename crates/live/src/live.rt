@@ -1,6 +1,6 @@
 //! The book under its lock, the device, and the end of a run.
 
-ghost use Rattle.std.specs.Prelude.{◌≡◌, ◌⊎◌, ℕ, ◌+◌, ◌<◌, ◌≤◌, [], true, false, All, map, MatchBool, is_ok, length, reverse, IfOk, IfErr, OnOk, OnErr, ◌↔◌};
+ghost use Rattle.std.specs.Prelude.{◌≡◌, ◌⊎◌, ℕ, ◌+◌, ◌<◌, ◌≤◌, [], true, false, All, map, MatchBool, is_ok, length, reverse, IfOk, IfErr, OnOk, OnErr, ◌↔◌, vec_capacity};
 ghost use Rattle.std.specs.List.{sum_by};
 ghost use Rattle.machine.specs.State.{opening_of, is_config};
 ghost use Rattle.machine.specs.History.{Honest, Right, Numbered, at_first};
@@ -14,9 +14,11 @@ ghost use Rattle.live.specs.Passes.{book_pass};
 ghost use Rattle.live.specs.Matching.{Matches, has_share};
 ghost use Rattle.live.specs.Reports.{IsLegal, HasOut, IsMissing};
 ghost use Rattle.live.specs.OneRun.{IsOneRun, WereGiven};
+ghost use Rattle.live.specs.Looks.{EndsLooked};
 
 use crate::hand::First;
 use crate::history::Unnamed;
+use crate::looks::EndLook;
 use crate::opened::Opened;
 use crate::pass::Pass;
 use crate::report::{Report, Unfinished};
@@ -39,8 +41,10 @@ pub struct Live<L: Opened, D: SharedDevice> {
     pub(crate) shared: Mutex<SharedBook<L>>,
     /// The first seat of the marks of frames. Its lock and the book's are never held together.
     pub(crate) first: Mutex<First>,
-    /// Notified when a transfer has ended, or when the daemon has to run.
+    /// Notified when a transfer has ended, if a worker waits for that.
     pub(crate) moved: Condvar,
+    /// Notified when the daemon has to run.
+    pub(crate) low: Condvar,
     /// Its device. The machine does not see a call that is made through this field.
     pub device: D,
     pub(crate) marks: Watermarks,
@@ -86,6 +90,7 @@ impl<L: Opened, D: SharedDevice> Live<L, D> {
                     shared: Mutex::new(SharedBook::new(alloc, book, log)),
                     first: Mutex::new(first),
                     moved: Condvar::new(),
+                    low: Condvar::new(),
                     device,
                     marks,
                     placement,
@@ -112,7 +117,7 @@ impl<L: Opened, D: SharedDevice> Live<L, D> {
     /// Makes the daemon end, after it has run once more.
     pub fn stop<R: Wait>(&self, rt: &R) {
         self.shared.lock(rt).stop();
-        self.moved.notify_all();
+        self.low.notify_all();
     }
 }
 
@@ -160,6 +165,47 @@ impl<L: Opened, D: SharedDevice + Drop> Live<L, D> {
         ensures back { IfErr result (λ e. e.1.items ≡ passes.items) }
         ensures roll { IfErr result (λ e. e.3 ≡ roll) }
     {
+        let room = Vec::new(self.alloc);
+        match self.finish_with_looks(passes, roll, &[], room) {
+            Ok((report, _looks)) => Ok(report),
+            Err(back) => Err(back),
+        }
+    }
+
+    /// Ends the run as [`Live::finish`] does. Also returns what the groups of these paths are at the end, in the room
+    /// for that. It is `None` for a path that no group has. The looks leave no entry in the trace.
+    pub fn finish_with_looks(
+        self,
+        passes: Vec<Pass<L>>,
+        roll: Roll<L>,
+        paths: &[&str],
+        room: Vec<Option<EndLook>>,
+    ) -> Result<(Report<D>, Vec<Option<EndLook>>), (Live<L, D>, Vec<Pass<L>>, Unfinished, Roll<L>)>
+        requires none { room.items ≡ [] }
+        requires room { length paths.now ≤ vec_capacity room }
+        // One run of the machine told the workers all that they were told, and the looks are at the state that it led to.
+        ensures looked { IfOk result (λ r. EndsLooked L.opening r.0.trace.entries passes.items (map (λ p. p.now) paths.now) r.1.items) }
+        ensures count { IfOk result (λ r. length passes.items ≡ roll.given) }
+        ensures one_run { IfOk result (λ r. IsOneRun L.opening r.0.trace.entries passes.items) }
+        ensures each { IfOk result (λ r. All (λ p. WereGiven L.opening (reverse r.0.trace.entries) p.caller.worker p.exchanges) passes.items) }
+        ensures legal { IfOk result (λ r. IsLegal L.opening (reverse r.0.trace.entries)) }
+        ensures right { IfOk result (λ r. (files : ℕ → ℕ → ℕ → ℕ) → Honest (at_first files) (reverse r.0.trace.entries) → Right (at_first files) (reverse r.0.trace.entries)) }
+        ensures numbered { IfOk result (λ r. Numbered (reverse r.0.trace.entries)) }
+        ensures entries { IfOk result (λ r. length r.0.trace.entries ≡ sum_by (λ p. count_of p.kept) passes.items) }
+        ensures always { IfOk result (λ r. r.0.replies_match ≡ true) }
+        ensures matches { IfOk result (λ r. MatchBool r.0.replies_match (Matches r.0.trace.entries passes.items) (Matches r.0.trace.entries passes.items → ⊥)) }
+        ensures at_rest { IfOk result (λ r. r.0.replies_match ≡ true → transfers_begun (reverse r.0.trace.entries) ≡ transfers_ended (reverse r.0.trace.entries)) }
+        ensures audited { IfOk result (λ r. let history = reverse r.0.trace.entries in is_ok r.0.audit ≡ true ↔ Passes (first_of history) history) }
+        ensures first { IfOk result (λ r. IfErr r.0.audit (λ first. IsFirstWrong r.0.trace.entries first.entry)) }
+        ensures whole { IfOk result (λ r. All (λ p. map kept_of p.exchanges ≡ p.kept) passes.items) }
+        ensures all { IfOk result (λ r. All (λ p. has_share p.kept ≡ false) passes.items) }
+        ensures passes { IfOk result (λ r. r.0.passes.items ≡ map book_pass passes.items) }
+        ensures device { IfOk result (λ r. r.0.device ≡ self.device) }
+        ensures missing { IfErr result (λ e. IsMissing passes.items e.2) }
+        ensures given { IfErr result (λ e. e.2 ≡ Unfinished.PassMissing roll.given) }
+        ensures back { IfErr result (λ e. e.1.items ≡ passes.items) }
+        ensures roll { IfErr result (λ e. e.3 ≡ roll) }
+    {
         let given = roll.given();
         if passes.len() < given as usize || has_out(passes.as_slice()) {
             return Err((self, passes, Unfinished::PassMissing(given), roll));
@@ -168,20 +214,22 @@ impl<L: Opened, D: SharedDevice + Drop> Live<L, D> {
             shared,
             first: _,
             moved: _,
+            low: _,
             device,
             marks: _,
             placement: _,
             alloc: _,
         } = self;
-        let (trace, passes) = shared.into_inner().settle(passes, roll);
+        let (trace, passes, looks) = shared.into_inner().settle(passes, roll, paths, room);
         let audit = audit(&trace);
-        Ok(Report {
+        let report = Report {
             trace,
             replies_match: true,
             audit,
             passes,
             device,
-        })
+        };
+        Ok((report, looks))
     }
 
     /// Ends everything, without a report.
@@ -190,6 +238,7 @@ impl<L: Opened, D: SharedDevice + Drop> Live<L, D> {
             shared,
             first: _,
             moved: _,
+            low: _,
             device: _,
             marks: _,
             placement: _,

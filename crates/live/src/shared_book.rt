@@ -16,10 +16,12 @@ ghost use Rattle.live.specs.Runs.{Looked};
 ghost use Rattle.live.specs.Reports.{IsLegal};
 ghost use Rattle.live.specs.Rules.{IsAll};
 ghost use Rattle.live.specs.OneRun.{IsOneRun, WereGiven};
+ghost use Rattle.live.specs.Looks.{EndsLooked};
 ghost use Rattle.live.specs.Shared.{rows_of};
 ghost use Rattle.live.specs.Hands.{HasEvent};
 
 use crate::history::{Ending, Log};
+use crate::looks::{EndLook, look_all};
 use crate::opened::Opened;
 use crate::pass::Pass;
 use crate::report::EndedPass;
@@ -42,6 +44,8 @@ pub struct SharedBook<L: Opened> {
     ended_passes: Vec<EndedPass>,
     /// How many transfers have ended.
     ended: u64,
+    /// How many workers wait for the end of a transfer.
+    waiting: usize,
     is_stopped: bool,
     /// Whether free frames were at or above the low watermark since the daemon last began.
     is_armed: bool,
@@ -92,6 +96,7 @@ impl<L: Opened> SharedBook<L> {
             log,
             ended_passes: Vec::new(alloc),
             ended: 0,
+            waiting: 0,
             is_stopped: false,
             is_armed: true,
             of: PhantomData,
@@ -210,6 +215,21 @@ impl<L: Opened> SharedBook<L> {
         self.ended
     }
 
+    /// Notes that a worker begins to wait for the end of a transfer.
+    pub fn begin_wait(&mut self) {
+        self.waiting = self.waiting.saturating_add(1);
+    }
+
+    /// Notes that a worker has waited.
+    pub fn end_wait(&mut self) {
+        self.waiting = self.waiting.saturating_sub(1);
+    }
+
+    /// Whether a worker waits for the end of a transfer.
+    pub fn is_awaited(&self) -> bool {
+        self.waiting > 0
+    }
+
     /// Ends the book, and returns its trace.
     pub fn close(self) -> Trace {
         let SharedBook {
@@ -217,6 +237,7 @@ impl<L: Opened> SharedBook<L> {
             log: _,
             ended_passes: _,
             ended: _,
+            waiting: _,
             is_stopped: _,
             is_armed: _,
             of: _,
@@ -224,11 +245,21 @@ impl<L: Opened> SharedBook<L> {
         book.close()
     }
 
-    /// Ends the book with all its passes. Returns its trace, and the passes.
-    pub fn settle(self, passes: Vec<Pass<L>>, roll: Roll<L>) -> (Trace, Vec<EndedPass>)
-        requires { roll.given ≤ length passes.items }
+    /// Ends the book with all its passes, after a look at the groups of these paths, for which there is room. Returns
+    /// its trace, the passes, and what was seen.
+    pub fn settle(
+        self,
+        passes: Vec<Pass<L>>,
+        roll: Roll<L>,
+        paths: &[&str],
+        room: Vec<Option<EndLook>>,
+    ) -> (Trace, Vec<EndedPass>, Vec<Option<EndLook>>)
+        requires all { roll.given ≤ length passes.items }
+        requires none { room.items ≡ [] }
+        requires room { length paths.now ≤ vec_capacity room }
         ensures count { length passes.items ≡ roll.given }
         ensures one_run { IsOneRun L.opening result.0.entries passes.items }
+        ensures looked { EndsLooked L.opening result.0.entries passes.items (map (λ p. p.now) paths.now) result.2.items }
         ensures each { All (λ p. WereGiven L.opening (reverse result.0.entries) p.caller.worker p.exchanges) passes.items }
         ensures legal { IsLegal L.opening (reverse result.0.entries) }
         ensures right { (files : ℕ → ℕ → ℕ → ℕ) → Honest (at_first files) (reverse result.0.entries) → Right (at_first files) (reverse result.0.entries) }
@@ -243,6 +274,7 @@ impl<L: Opened> SharedBook<L> {
             log,
             ended_passes,
             ended: _,
+            waiting: _,
             is_stopped: _,
             is_armed: _,
             of: _,
@@ -250,8 +282,9 @@ impl<L: Opened> SharedBook<L> {
         let count = roll.given();
         let ending = log.end(roll.into_front(), count);
         let ended = bring_together(ending, passes, ended_passes);
+        let looks = look_all(&book, paths, room);
         book.history_is_right();
-        (book.close(), ended)
+        (book.close(), ended, looks)
     }
 }
 

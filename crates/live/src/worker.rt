@@ -23,6 +23,7 @@ use machine::refusal::Refusal;
 use std::alloc::AllocError;
 use std::sync::Wait;
 use turns::automaton::{ask, holds, let_go, resumes_at, told};
+use turns::judge::judge_task;
 use turns::turn::{Access, Pending, Resume, Stage, Transition, Want};
 
 fn out_of_memory(actor: Actor) -> Told
@@ -56,14 +57,17 @@ impl<L: Opened, D: SharedDevice> Live<L, D> {
         ensures handed { IsHanded result }
     {
         let ends = is_end(&event);
-        let reply = {
+        let (reply, is_awaited, wants_daemon) = {
             let mut shared = self.shared.lock(rt);
             let reply = shared.call(pass, event);
-            if ends || shared.wants_daemon() {
-                self.moved.notify_all();
-            }
-            reply
+            (reply, ends && shared.is_awaited(), shared.wants_daemon())
         };
+        if is_awaited {
+            self.moved.notify_all();
+        }
+        if wants_daemon {
+            self.low.notify_all();
+        }
         if marks {
             pass.mark(&reply);
         }
@@ -73,10 +77,12 @@ impl<L: Opened, D: SharedDevice> Live<L, D> {
     /// Sleeps until a transfer has ended since the pass last asked.
     fn wait<R: Wait>(&self, rt: &R, pass: &Pass<L>) {
         let seen = pass.seen();
-        let guard = self.shared.lock(rt);
-        let _guard = self
+        let mut guard = self.shared.lock(rt);
+        guard.begin_wait();
+        let mut guard = self
             .moved
             .wait_while(rt, guard, |shared| shared.ended() == seen);
+        guard.end_wait();
     }
 
     /// How many frames are free, if the daemon asks. No other command needs the number.
@@ -288,7 +294,8 @@ impl<L: Opened, D: SharedDevice> Live<L, D> {
         unreachable!()
     }
 
-    /// The first part of a command's first turn: its paths are looked up, and the rest is judged.
+    /// The first part of a command's first turn: its paths are looked up, and the rest is judged. A task's command has
+    /// no path, so it needs no lock.
     fn first<R: Wait>(
         &self,
         rt: &R,
@@ -302,6 +309,9 @@ impl<L: Opened, D: SharedDevice> Live<L, D> {
         ensures share { OnOk result (Carries pass.old.kept 0 pass.new.kept 0) }
         ensures err { OnErr result ((pass.new.exchanges ≡ pass.old.exchanges) × (pass.new.kept ≡ pass.old.kept)) }
     {
+        if let Actor::Task(task) = actor {
+            return Ok(judge_task(task, command));
+        }
         pass.reserve(2)?;
         let judged = self
             .shared
@@ -455,7 +465,7 @@ impl<L: Opened, D: SharedDevice> Live<L, D> {
     fn doze<R: Wait>(&self, rt: &R) -> bool {
         let guard = self.shared.lock(rt);
         let mut shared = self
-            .moved
+            .low
             .wait_while(rt, guard, |shared| !shared.wants_daemon());
         shared.begin_daemon()
     }

@@ -1,17 +1,18 @@
 //! `memcgrun schedule FILE` runs a script of memory control groups and prints its answers. `memcgrun run FILE` runs one
-//! on threads. `memcgrun explore FILE` runs one in every order of its turns. `memcgrun chart FILE` draws what its groups are charged with. `memcgrun check FILE..` compares what
+//! on threads. `memcgrun explore FILE` lists all its outcomes. `memcgrun chart FILE` draws what its groups are charged with. `memcgrun check FILE..` compares what
 //! scripts print with what they expect.
 #![tactic(auto)]
 
-mod explore_args;
-mod scenario_args;
-mod told;
-mod words;
+mod exploring;
 
 ghost use Rattle.std.specs.Prelude.{◌≡◌, ◌≤◌};
 
-use explore_args::{Exploration, explore_bytes};
-use scenario_args::{Purpose, Scenario};
+use command_line::{
+    Asked, ChartForm, Exploration, Purpose, Refused, Request, Scenario, Subcommand, plain_name,
+    read_words, tell_no_memory, tell_no_script, tell_no_setting, tell_no_text, tell_no_values,
+    tell_scenario, tell_set_and_varied, text_about,
+};
+use exploring::explore_bytes;
 use simulation::{
     Prints, Values, expand, is_setting, looks_like_scenario, read_values, simulate, vary,
 };
@@ -24,14 +25,9 @@ use std::sync::Wait;
 use std::thread::Threads;
 use std::{env, io, str};
 use subcommands::{
-    Options, chart, read_and_check, read_script, run_script, run_script_on_threads, status_of,
-    status_of_run,
+    Drawing, Options, Shows, Summary, chart, read_and_check, read_script, run_script,
+    run_script_showing, status_of, status_of_run,
 };
-use told::{
-    plain_name, tell_no_memory, tell_no_script, tell_no_setting, tell_no_text, tell_no_values,
-    tell_scenario, tell_set_and_varied,
-};
-use words::{Asked, Refused, Request, Subcommand, text_about};
 
 const FAILED: u8 = 1;
 
@@ -73,10 +69,54 @@ struct Terminals {
     err: bool,
 }
 
+fn drawing_of(form: ChartForm) -> Drawing {
+    match form {
+        ChartForm::Picture => Drawing::Picture,
+        ChartForm::Table => Drawing::Table,
+    }
+}
+
+/// Runs the script on threads, and shows the groups of these paths at the end. An empty path means all groups. If the
+/// options ask for a summary, it follows on standard error.
+fn run_on_threads<R: Threads + Wait + Sync + AllocGlobal, O: Write, E: Write>(
+    rt: &R,
+    options: Options,
+    shown: &[&str],
+    name: &str,
+    script: &[u8],
+    out: &mut O,
+    err: &mut E,
+) -> u8
+    ensures success_or_failure { result ≤ 1 }
+{
+    let shows = if shown.iter().any(|path| path.is_empty()) {
+        Shows::All
+    } else {
+        Shows::These(shown)
+    };
+    let mut summary = Summary::new();
+    let ran = run_script_showing(
+        rt,
+        rt.alloc(),
+        options,
+        shows,
+        name,
+        script,
+        &mut summary,
+        out,
+    );
+    if options.summary && ran.is_ok() {
+        // The status does not depend on it.
+        let _ = summary.write(err);
+    }
+    status_of_run(ran, err)
+}
+
 /// Runs the script. If it is not run to its end, a line says why.
 fn run<R: Threads + Wait + Sync + AllocGlobal, I: Read, O: Write, E: Write>(
     rt: &R,
     request: Request<'_>,
+    shown: &[&str],
     script: &mut I,
     out: &mut O,
     err: &mut E,
@@ -100,12 +140,10 @@ fn run<R: Threads + Wait + Sync + AllocGlobal, I: Read, O: Write, E: Write>(
             let ran = run_script(alloc, request.options, &name, &bytes, out, err);
             status_of(ran, err)
         }
-        Subcommand::Run => {
-            let ran = run_script_on_threads(rt, alloc, request.options, &name, &bytes, out);
-            status_of_run(ran, err)
-        }
-        Subcommand::Chart(kind) => {
-            let ran = chart(alloc, request.options, kind, &name, &bytes, out);
+        Subcommand::Run => run_on_threads(rt, request.options, shown, &name, &bytes, out, err),
+        Subcommand::Chart(form) => {
+            let drawing = drawing_of(form);
+            let ran = chart(alloc, request.options, drawing, &name, &bytes, out);
             status_of(ran, err)
         }
     };
@@ -119,6 +157,7 @@ fn run<R: Threads + Wait + Sync + AllocGlobal, I: Read, O: Write, E: Write>(
 fn serve<R: Files + AllocGlobal + Threads + Wait + Sync, I: Read, O: Write, E: Write>(
     rt: &R,
     request: Request<'_>,
+    shown: &[&str],
     terminals: Terminals,
     input: &mut I,
     out: &mut O,
@@ -127,10 +166,10 @@ fn serve<R: Files + AllocGlobal + Threads + Wait + Sync, I: Read, O: Write, E: W
     ensures success_or_failure { result ≤ 1 }
 {
     if request.file == STANDARD_INPUT {
-        return run_from(rt, request, terminals, input, out, err);
+        return run_from(rt, request, shown, terminals, input, out, err);
     }
     match open(rt, request.file, err) {
-        Some(mut script) => run_from(rt, request, terminals, &mut script, out, err),
+        Some(mut script) => run_from(rt, request, shown, terminals, &mut script, out, err),
         None => FAILED,
     }
 }
@@ -141,6 +180,7 @@ fn serve<R: Files + AllocGlobal + Threads + Wait + Sync, I: Read, O: Write, E: W
 fn run_from<R: AllocGlobal + Threads + Wait + Sync, I: Read, O: Write, E: Write>(
     rt: &R,
     mut request: Request<'_>,
+    shown: &[&str],
     terminals: Terminals,
     script: &mut I,
     out: &mut O,
@@ -156,16 +196,17 @@ fn run_from<R: AllocGlobal + Threads + Wait + Sync, I: Read, O: Write, E: Write>
     if !request.options.progress {
         // If there is no memory for a line, its parts are written as they come.
         if let Ok(mut lines) = LineWriter::new(rt.alloc(), &mut *err) {
-            return run_into(rt, request, script, out, &mut lines);
+            return run_into(rt, request, shown, script, out, &mut lines);
         }
     }
-    run_into(rt, request, script, out, err)
+    run_into(rt, request, shown, script, out, err)
 }
 
 /// Runs the script, and writes its answers in blocks unless they are to be written as they come.
 fn run_into<R: AllocGlobal + Threads + Wait + Sync, I: Read, O: Write, E: Write>(
     rt: &R,
     request: Request<'_>,
+    shown: &[&str],
     script: &mut I,
     out: &mut O,
     err: &mut E,
@@ -175,10 +216,10 @@ fn run_into<R: AllocGlobal + Threads + Wait + Sync, I: Read, O: Write, E: Write>
     if !request.is_unbuffered {
         // If there is no memory for a block, they are written as they come, too.
         if let Ok(mut blocks) = BufWriter::new(rt.alloc(), &mut *out) {
-            return run(rt, request, script, &mut blocks, err);
+            return run(rt, request, shown, script, &mut blocks, err);
         }
     }
-    run(rt, request, script, out, err)
+    run(rt, request, shown, script, out, err)
 }
 
 /// Checks the scripts and scenarios of these files, one after the other, whatever the results of those before.
@@ -546,8 +587,10 @@ fn start<R: Env + Files + AllocGlobal + Threads + Wait + Sync, I: Read, O: Write
             return FAILED;
         }
     };
-    match words::read_words(rt.alloc(), &words) {
-        Ok(Asked::Script(request)) => serve(rt, request, terminals, input, out, err),
+    match read_words(rt.alloc(), &words) {
+        Ok(Asked::Script(request, shown)) => {
+            serve(rt, request, &shown, terminals, input, out, err)
+        }
         Ok(Asked::Check(options, files)) => check_all(rt, options, &files, input, out, err),
         Ok(Asked::Explore(exploration)) => { serve_exploration(rt, &exploration, input, out, err) }
         Ok(Asked::Scenario(scenario)) => {
@@ -581,58 +624,4 @@ fn main(rt: HostRuntime) -> ExitCode {
         &mut rt.stdout(),
         &mut rt.stderr(),
     ))
-}
-
-#[cfg(test)]
-mod tests {
-    use super::*;
-    use std::str;
-
-    // Counts what it is given, and notes whether each piece ends a line.
-    struct Pieces {
-        count: usize,
-        end_lines: bool,
-    }
-
-    impl Write for Pieces {
-        fn write(&mut self, buf: &[u8]) -> io::Result<usize> {
-            self.count = self.count.saturating_add(1);
-            self.end_lines = self.end_lines && buf.ends_with(b"\n");
-            Ok(buf.len())
-        }
-
-        fn flush(&mut self) -> io::Result<()> {
-            Ok(())
-        }
-    }
-
-    #[test]
-    fn each_line_of_a_summary_is_written_in_one_piece(rt: HostRuntime) {
-        let request = Request {
-            subcommand: Subcommand::Schedule,
-            file: "a",
-            options: Options {
-                summary: true,
-                ..Options::default()
-            },
-            is_unbuffered: false,
-        };
-        let terminals = Terminals {
-            out: false,
-            err: false,
-        };
-        let mut script = b"group /a\nrmdir /b\n".as_slice();
-        let mut out = Vec::new(rt.alloc());
-        let mut err = Pieces {
-            count: 0,
-            end_lines: true,
-        };
-        let status = run_from(&rt, request, terminals, &mut script, &mut out, &mut err);
-        assert_eq!(rt; status, 0);
-        assert_eq!(rt; str::from_utf8(&out), Ok("error ENOENT\n"));
-        // After eleven lines, one says how many lines failed.
-        let Pieces { count, end_lines } = err;
-        assert_eq!(rt; count, 12);
-        assert!(rt; end_lines);
-    }
 }

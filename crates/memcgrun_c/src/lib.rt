@@ -18,11 +18,15 @@ ghost use Rattle.printer.specs.Asked.{plain_as, speaks};
 ghost use Rattle.expectations.specs.Expected.{expected_of};
 ghost use Rattle.subcommands.specs.Scripts.{PrintsScript, PrintsPart, EndsScript};
 ghost use Rattle.subcommands.specs.Charted.{ListsScript};
+ghost use Rattle.explore.specs.declared.report.Verdict.{Verdict};
+ghost use Rattle.explore.specs.Explores.{Explores};
+ghost use Rattle.embedding.specs.Exploring.{exploration_of, IsWhole};
 ghost use Rattle.embedding.specs.declared.status.TheConstants.{OK, BAD_SCRIPT, NO_MEMORY, REFUSED, DIFFERS, BAD_OPTIONS};
 ghost use Rattle.embedding.specs.Buffers.{Gives};
 ghost use Rattle.embedding.specs.Calls.{placement_of, options_of, chart_options_of, IsUnsound, Tells, TellsPart, TellsPartNamed};
+ghost use Rattle.embedding.specs.Scenarios.{IsUnsoundScenario};
 
-use embedding::{Asked, Lengths, ScenarioAsked};
+use embedding::{Asked, ExploreAsked, Lengths, ScenarioAsked};
 use std::alloc::Global;
 
 /// Runs a script over a new device, as `memcgrun schedule` does, and returns its answers.
@@ -123,6 +127,8 @@ pub extern "C" fn memcgrun_proved_simulate(
     ensures unprinted { result ≡ BAD_OPTIONS → (lengths.new.out ≡ 0) × (out.new ≡ out.old) }
     ensures texts { (result ≡ OK) ⊎ (result ≡ DIFFERS) → IsUtf8 settings.now × IsUtf8 groups.now }
     ensures reads { (result ≡ OK) ⊎ (result ≡ DIFFERS) → IsOk (scenario_of text.now) }
+    ensures bad { result ≡ BAD_SCRIPT → IsUnsoundScenario text.now settings.now }
+    ensures misasked { result ≡ BAD_OPTIONS → (settings.now ≢ []) ⊎ (groups.now ≢ []) }
     ensures long { SCRIPT_BYTES < length text.now → ((result ≡ BAD_SCRIPT) ⊎ (result ≡ NO_MEMORY)) × (lengths.new.out ≡ 0) × (out.new ≡ out.old) }
     ensures out { (bytes : List ℕ) × Gives out.old out.new lengths.new.out bytes }
     ensures err { (bytes : List ℕ) × Gives err.old err.new lengths.new.err bytes }
@@ -147,9 +153,35 @@ pub extern "C" fn memcgrun_proved_expand(
     ensures unprinted { result ≢ OK → (lengths.new.out ≡ 0) × (out.new ≡ out.old) }
     ensures texts { result ≡ OK → IsUtf8 settings.now }
     ensures reads { result ≡ OK → IsOk (scenario_of text.now) }
+    ensures bad { result ≡ BAD_SCRIPT → IsUnsoundScenario text.now settings.now }
+    ensures misasked { result ≡ BAD_OPTIONS → (settings.now ≢ []) ⊎ (cuts.now ≢ []) }
     ensures long { SCRIPT_BYTES < length text.now → (result ≡ BAD_SCRIPT) ⊎ (result ≡ NO_MEMORY) }
     ensures out { (bytes : List ℕ) × Gives out.old out.new lengths.new.out bytes }
     ensures err { (bytes : List ℕ) × Gives err.old err.new lengths.new.err bytes }
 {
     embedding::expand(alloc, text, settings, cuts, out, err, lengths)
+}
+
+/// Runs a script's work in the orders of its turns in which calls of the device come first, in every order, or in those
+/// of a sample, as `memcgrun explore` does. Lists the outcomes, or gives the first order with one of them as a script.
+#[unsafe(no_mangle)]
+pub extern "C" fn memcgrun_proved_explore(
+    alloc: Global,
+    script: &[u8],
+    asked: &ExploreAsked,
+    out: &mut [u8],
+    err: &mut [u8],
+    lengths: &mut Lengths,
+) -> u8
+    ensures known { (result ≤ NO_MEMORY) ⊎ (result ≡ DIFFERS) ⊎ (result ≡ BAD_OPTIONS) }
+    ensures explored { result ≡ OK → (bytes : List ℕ) × (verdict : Verdict) × IsWhole verdict × Explores (exploration_of asked.now) script.now verdict (Some []) (Some bytes) × Gives out.old out.new lengths.new.out bytes }
+    ensures silent { result ≡ OK → (lengths.new.err ≡ 0) × (err.new ≡ err.old) }
+    ensures faultless { (result ≡ DIFFERS) ⊎ (result ≡ BAD_OPTIONS) → IsFaultless Schedule (lines script.now) }
+    ensures unprinted { result ≢ OK → result ≢ DIFFERS → (lengths.new.out ≡ 0) × (out.new ≡ out.old) }
+    ensures unsound { IsUnsound script.now → (result ≡ BAD_SCRIPT) ⊎ (result ≡ NO_MEMORY) }
+    ensures told { result ≡ BAD_SCRIPT → IsUnsound script.now → (text : List ℕ) × Tells (plain_as (placement_of asked.now.as_linux)) (codes "script") script.now (codes "script: ") text result × Gives err.old err.new lengths.new.err text }
+    ensures out { (bytes : List ℕ) × Gives out.old out.new lengths.new.out bytes }
+    ensures err { (bytes : List ℕ) × Gives err.old err.new lengths.new.err bytes }
+{
+    embedding::explore(alloc, script, asked, out, err, lengths)
 }

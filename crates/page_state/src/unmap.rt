@@ -1,8 +1,9 @@
 //! Unmapping virtual pages. A page that nothing maps any more is gone, with what it owned. A page in
 //! transfer stays until the transfer ends.
 
-ghost use Rattle.std.specs.Prelude.{◌≡◌, ◌&&◌, not};
+ghost use Rattle.std.specs.Prelude.{◌≡◌, ℕ, ◌≤◌, ◌&&◌, not, None};
 ghost use Rattle.machine.specs.Slots.{there_and};
+ghost use Rattle.machine.specs.Tasks.{mapped_at};
 ghost use Rattle.machine.specs.Pages.{page_at, is_anon, is_in_transfer};
 ghost use Rattle.page_state.specs.Changes.{Unmaps, UnmapsAll};
 ghost use Rattle.page_state.specs.Owned.{PartsAgree};
@@ -12,7 +13,6 @@ ghost use Rattle.page_state.specs.Drops.{is_transfer};
 use crate::joined::State;
 use crate::parts::Parts;
 use machine::id::{PageId, TaskId};
-use machine::limit::TASK_PAGES;
 use machine::record::Kind;
 use pages::{Pages, Residence};
 use spaces::Spaces;
@@ -28,12 +28,19 @@ impl State {
         }
     }
 
+    /// A number that is above those of all virtual pages of the task that map a page.
+    fn bound(&self, task: TaskId) -> u32
+        ensures { (at : ℕ) → result ≤ at → mapped_at self.now.tables.page_tables task.0 at ≡ None }
+    {
+        self.spaces.bound(task)
+    }
+
     /// Unmaps all virtual pages of the task. Allocates no memory.
     pub(crate) fn unmap_all(&mut self, task: TaskId)
         ensures { UnmapsAll self.old self.new task.0 }
     {
         self.is_joined();
-        for at in 0..TASK_PAGES {
+        for at in 0..self.bound(task) {
             self.unmap(task, at);
         }
     }

@@ -56,6 +56,8 @@ pub struct Killing<'s> {
     pub max: Amount,
     /// Pages that are charged to it and below it.
     pub usage: u64,
+    /// The path of the victim's group.
+    pub home: Option<&'s str>,
     /// The path of the group that dies with the task. `None` if the task dies alone.
     pub group: Option<&'s str>,
     /// How many died with that group.
@@ -77,14 +79,50 @@ fn write_frames<W: Write>(f: &mut Formatter<W>, frames: u32) -> fmt::Result {
     f.write_str(") and")
 }
 
+/// A number of pages, in words.
+#[derive(Clone, Copy)]
+struct Pages(usize);
+
+impl fmt::Display for Pages {
+    fn fmt<W: Write>(&self, f: &mut Formatter<W>) -> fmt::Result {
+        match self.0 {
+            1 => f.write_str("1 page"),
+            pages => write!(f, "{pages} pages"),
+        }
+    }
+}
+
+/// What a labelled answer adds to `killed group`: which group died, and of which group the victim was. Nothing if the
+/// victim died alone.
+#[derive(Clone, Copy)]
+pub struct GroupKill<'k, 's>(pub &'k Killing<'s>);
+
+impl fmt::Display for GroupKill<'_, '_> {
+    fn fmt<W: Write>(&self, f: &mut Formatter<W>) -> fmt::Result {
+        let killing = self.0;
+        let Some(path) = killing.group else {
+            return Ok(());
+        };
+        match killing.dead {
+            1 => write!(f, " (the only task of {path}: ")?,
+            dead => write!(f, " (all {dead} tasks of {path}; the victim: ")?,
+        }
+        let pages = Pages(killing.victim.pages);
+        let task = killing.victim.task.0;
+        match killing.home {
+            Some(home) => write!(f, "task {task} of {home}, {pages})"),
+            None => write!(f, "task {task}, {pages})"),
+        }
+    }
+}
+
 impl Killing<'_> {
     /// Writes how large the task was, and among how many tasks.
     fn write_choice<W: Write>(&self, f: &mut Formatter<W>) -> fmt::Result {
-        let pages = self.victim.pages;
-        let ending = if pages == 1 { "" } else { "s" };
+        let pages = Pages(self.victim.pages);
         match self.victim.tasks {
-            1 => write!(f, "{pages} page{ending} of the only task"),
-            tasks => write!(f, "{pages} page{ending}, the most of {tasks} tasks"),
+            1 => write!(f, "{pages} of the only task"),
+            tasks => write!(f, "{pages}, the most of {tasks} tasks"),
         }
     }
 
@@ -141,6 +179,22 @@ impl Killing<'_> {
             ),
         }
     }
+
+    /// Writes of which group the victim is, if that is not the group that dies.
+    fn write_home<W: Write>(&self, f: &mut Formatter<W>, path: &str) -> fmt::Result {
+        match self.home {
+            Some(home) => self.write_home_in(f, home, path),
+            None => Ok(()),
+        }
+    }
+
+    fn write_home_in<W: Write>(&self, f: &mut Formatter<W>, home: &str, path: &str) -> fmt::Result {
+        if home == path {
+            return Ok(());
+        }
+        let task = self.victim.task.0;
+        write!(f, "; task {task} is in {home}")
+    }
 }
 
 impl fmt::Display for Killing<'_> {
@@ -151,7 +205,10 @@ impl fmt::Display for Killing<'_> {
         f.write_str(" nothing can be reclaimed")?;
         self.write_ties(f)?;
         match self.group {
-            Some(path) => self.write_group(f, path),
+            Some(path) => {
+                self.write_group(f, path)?;
+                self.write_home(f, path)
+            }
             None => Ok(()),
         }
     }

@@ -114,7 +114,7 @@ impl<'s> Observed<'s> {
         config: &Config,
     ) -> Result<Observed<'s>, AllocError> {
         let mut observed = Observed::nothing(alloc, config);
-        if options.summary || options.tells_reasons() {
+        if options.summary || options.tells_reasons() || options.tells_kills() {
             observed.groups = Observed::groups_of(alloc, schedule)?;
         }
         if options.tells_reasons() {
@@ -173,6 +173,7 @@ impl<'s> Observed<'s> {
             path,
             max: look.max,
             usage: look.usage,
+            home: self.group_of(book, victim.home).map(|(path, _)| path),
             group: group.map(|(path, _)| path),
             dead: 0,
             frames: self.frames,

@@ -88,6 +88,11 @@ impl Options {
         self.explain || self.strict
     }
 
+    /// Whether something says more of a kill than its answer does.
+    pub(crate) fn tells_kills(self) -> bool {
+        self.explain || self.labels
+    }
+
     /// Whether the text of the script's lines is asked for.
     pub(crate) fn shows_lines(self) -> bool {
         self.labels || self.explain || self.strict

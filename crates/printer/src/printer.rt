@@ -12,7 +12,7 @@ ghost use Rattle.printer.specs.Sinks.{OutTakes, OutBegins, IsQuiet, GoesOn, is_e
 use crate::amounts::add_reply;
 use crate::begun::Begun;
 use crate::judged::{is_minor, refusal_of};
-use crate::killing::{Killed, killed_in};
+use crate::killing::{GroupKill, Killed, Killing, killed_in};
 use crate::metered::{Calls, Metered, Moved};
 use crate::observed::Observed;
 use crate::options::Options;
@@ -109,12 +109,16 @@ impl<'o, 'e, 's, 'l, 't, 'b, 'g, 'p, 'f, O: Write, E: Write> Printer<
         if !self.options.marks_lines() {
             return write_bytes(self.out, self.text.as_bytes());
         }
-        self.write_marked(step)
+        let killing = match killed_in(&reply.answer) {
+            Some(killed) if self.options.labels => self.observed.killing_of(killed),
+            _ => None,
+        };
+        self.write_marked(step, killing)
     }
 
     /// Writes the lines that are to be written next. Each begins with the number of its line of the script, and
-    /// with that line's words if they are asked for.
-    fn write_marked(&mut self, step: usize) -> io::Result<()>
+    /// with that line's words if they are asked for. Then a kill gets more words, too.
+    fn write_marked(&mut self, step: usize, killing: Option<Killing<'_>>) -> io::Result<()>
         requires { marks_lines self.old.options ≡ true }
         ensures out { self.new.out.ghost_name ≡ self.old.out.ghost_name }
         ensures err { self.new.err ≡ self.old.err }
@@ -128,7 +132,11 @@ impl<'o, 'e, 's, 'l, 't, 'b, 'g, 'p, 'f, O: Write, E: Write> Printer<
         let mut marked = String::new(alloc);
         for line in self.text.lines() {
             if self.options.labels {
-                writeln!(marked, "{number}: {words}: {line}")?;
+                write!(marked, "{number}: {words}: {line}")?;
+                if let Some(killing) = &killing {
+                    write!(marked, "{}", GroupKill(killing))?;
+                }
+                marked.push('\n')?;
             } else {
                 writeln!(marked, "{number}: {line}")?;
             }
@@ -676,7 +684,7 @@ impl<'o, 'e, 's, 'l, 't, 'b, 'g, 'p, 'f, O: Write, E: Write> Sink
     }
 
     fn see_relief(&mut self, _step: usize, book: &Book, cause: Cause) {
-        if self.options.explain {
+        if self.options.tells_kills() {
             self.observed.see_relief(book, cause);
         }
     }

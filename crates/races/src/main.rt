@@ -1,8 +1,9 @@
-//! Explores the races that its words name. For each it compares the outcomes with those of its file, and checks that each
-//! outcome that is shown as a script answers what that script expects.
+//! Explores the races that its words name: the orders with device calls first, and every order. For each it compares the
+//! outcomes with those of its files, and checks that each outcome that is shown as a script answers what that script
+//! expects. It also draws a sample of each race, twice.
 #![tactic(auto)]
 
-use explore::{Asked, Verdict, explore_script};
+use explore::{Asked, Choice, Sample, Verdict, explore_script};
 use std::alloc::Global;
 use std::fs::File;
 use std::io::{ErrorKind, Read, Write};
@@ -60,7 +61,64 @@ fn check_shown<W: Write>(
     Ok(())
 }
 
-/// Explores a race. A line has its number of outcomes, and another says if they are not those of its file.
+/// Explores a race, and compares its outcomes with those of its file with this end. A line says if they differ. The result
+/// is the number of outcomes.
+fn compare<R: Files + AllocGlobal, W: Write>(
+    rt: &R,
+    asked: Asked,
+    name: &str,
+    end: &str,
+    script: &[u8],
+    out: &mut W,
+) -> io::Result<usize> {
+    let wanted = read(rt, name, end)?;
+    let Some((found, outcomes)) = explored(rt.alloc(), asked, script) else {
+        return Err(ErrorKind::Other.into());
+    };
+    if found.as_slice() != wanted.as_slice() {
+        writeln!(out, "{name}: other outcomes than in {name}{end}")?;
+        out.write_all(&found)?;
+    }
+    Ok(outcomes)
+}
+
+/// What a sample prints, and its number of outcomes, or none if it fails.
+fn sampled(alloc: Global, script: &[u8], seed: u64) -> Option<(Vec<u8>, usize)> {
+    let asked = Asked {
+        sample: Some(Sample { orders: 200, seed }),
+        ..Asked::default()
+    };
+    let mut out = Vec::new(alloc);
+    match explore_script(alloc, asked, script, &mut out) {
+        Ok(Verdict::Sample(outcomes)) => Some((out, outcomes)),
+        _ => None,
+    }
+}
+
+/// Draws a sample twice with the same seed. A line says if the two differ, or if a sample has no outcome or too many.
+fn check_sample<W: Write>(
+    alloc: Global,
+    name: &str,
+    script: &[u8],
+    outcomes: usize,
+    out: &mut W,
+) -> io::Result<()> {
+    let (Some((first, seen)), Some((second, _))) = (
+        sampled(alloc, script, 1),
+        sampled(alloc, script, 1),
+    ) else {
+        return Err(ErrorKind::Other.into());
+    };
+    if first.as_slice() != second.as_slice() {
+        writeln!(out, "{name}: the same seed draws another sample")?;
+    }
+    if seen == 0 || seen > outcomes {
+        writeln!(out, "{name}: a sample has {seen} outcomes")?;
+    }
+    Ok(())
+}
+
+/// Explores a race. A line has its number of outcomes with device calls first, and that of every order.
 fn explore_race<R: Files + AllocGlobal, W: Write>(
     rt: &R,
     name: &str,
@@ -68,15 +126,14 @@ fn explore_race<R: Files + AllocGlobal, W: Write>(
 ) -> io::Result<()> {
     let alloc = rt.alloc();
     let script = read(rt, name, ".memcg")?;
-    let wanted = read(rt, name, ".outcomes")?;
-    let Some((found, outcomes)) = explored(alloc, Asked::default(), &script) else {
-        return Err(ErrorKind::Other.into());
+    let outcomes = compare(rt, Asked::default(), name, ".outcomes", &script, out)?;
+    let asked = Asked {
+        choice: Choice::Any,
+        ..Asked::default()
     };
-    if found.as_slice() != wanted.as_slice() {
-        writeln!(out, "{name}: other outcomes than in its file")?;
-        out.write_all(&found)?;
-    }
-    writeln!(out, "{name}: {outcomes}")?;
+    let every = compare(rt, asked, name, ".every", &script, out)?;
+    writeln!(out, "{name}: outcomes {outcomes}, with --every {every}")?;
+    check_sample(alloc, name, &script, outcomes, out)?;
     check_shown(alloc, name, &script, outcomes, out)
 }
 

@@ -1,7 +1,11 @@
 //! Why a scenario was not expanded or run to its end.
 
-ghost use Rattle.std.specs.Prelude.{◌≡◌, IsOk, OnOk};
+ghost use Rattle.std.specs.Prelude.{◌≡◌, ◌≢◌, Ok, Err, IsErr, IfOk, IfErr, OnOk, MatchResult};
 ghost use Rattle.scenarios.specs.Scenario.{scenario_of};
+ghost use Rattle.scenario_faults.specs.Failures.{failure_of, problem_of};
+ghost use Rattle.scenario_words.specs.Faults.{text_error};
+ghost use Rattle.scenario_faults.specs.declared.fault.Failure.TheVariants.{Faulty, Misasked};
+ghost use Rattle.scenario_faults.specs.declared.fault.Problem.TheVariants.{Memory};
 
 use crate::fault_text::fault_text;
 use crate::written::{line_at, place_at, source_at};
@@ -44,12 +48,16 @@ pub enum Failure {
 }
 
 impl From<AllocError> for Problem {
+    ghost from_gives = { λ _ problem. problem ≡ Memory };
+
     fn from(_: AllocError) -> Problem {
         Problem::Memory
     }
 }
 
 impl<T: Drop> From<AllocFailed<T>> for Problem {
+    ghost from_gives = { λ _ problem. problem ≡ Memory };
+
     fn from(_: AllocFailed<T>) -> Problem {
         Problem::Memory
     }
@@ -66,6 +74,8 @@ impl From<io::Error> for Problem {
 }
 
 impl From<ExpandError> for Problem {
+    ghost from_gives = { λ error problem. problem ≡ problem_of error };
+
     fn from(error: ExpandError) -> Problem {
         match error {
             ExpandError::Memory => Problem::Memory,
@@ -75,6 +85,8 @@ impl From<ExpandError> for Problem {
 }
 
 impl From<ReadError> for Problem {
+    ghost from_gives = { λ error problem. problem ≡ problem_of (text_error error) };
+
     fn from(error: ReadError) -> Problem {
         Problem::from(ExpandError::from(error))
     }
@@ -136,7 +148,9 @@ pub fn problem_of(
     settings: &[&str],
     scene: Option<&Scene>,
     error: ExpandError,
-) -> Problem {
+) -> Problem
+    ensures { failure_of result ≡ failure_of (problem_of error) }
+{
     match error {
         ExpandError::Memory => Problem::Memory,
         ExpandError::Faulty(fault) => {
@@ -156,7 +170,9 @@ pub fn read_scenario<E: Write>(
     // `err` gets nothing but a fault.
     ensures silent { OnOk result (E.contents err.new ≡ E.contents err.old) }
     // A text with a fault is no scenario.
-    ensures reads { OnOk result (IsOk (scenario_of text.now)) }
+    ensures reads { IfOk result (λ scenario. scenario_of text.now ≡ Ok scenario.lines.items) }
+    ensures faulty { IfErr result (λ why. why ≡ Faulty → IsErr (scenario_of text.now)) }
+    ensures asked { IfErr result (λ why. why ≢ Misasked) }
 {
     match read(alloc, text) {
         Ok(scenario) => Ok(scenario),
@@ -177,6 +193,7 @@ pub fn reported<T: Drop, E: Write>(
 ) -> Result<T, Failure>
     // `err` gets nothing but a problem.
     ensures silent { OnOk result (E.contents err.new ≡ E.contents err.old) }
+    ensures same { MatchResult ran (λ value. result ≡ Ok value) (λ problem. result ≡ Err (failure_of problem)) }
 {
     match ran {
         Ok(value) => Ok(value),
@@ -223,7 +240,9 @@ fn write_fault<E: Write>(
 
 impl Problem {
     /// Its kind, for a caller.
-    pub fn failure(&self) -> Failure {
+    pub fn failure(&self) -> Failure
+        ensures { result ≡ failure_of self.now }
+    {
         match self {
             Problem::Memory => Failure::Memory,
             Problem::Faulty(_, _) => Failure::Faulty,

@@ -1,13 +1,18 @@
 //! The script of a scenario, printed.
 
-ghost use Rattle.std.specs.Prelude.{◌≡◌, ◌≤◌, IsOk, OnOk};
+ghost use Rattle.std.specs.Prelude.{◌≡◌, ◌≢◌, ◌⊎◌, ◌≤◌, [], true, map, IsOk, OnOk, IfErr};
 ghost use Rattle.scenarios.specs.Scenario.{scenario_of};
+ghost use Rattle.scenario_faults.specs.Failures.{failure_of};
+ghost use Rattle.scenario_faults.specs.Settings.{settings_of, has_unnamed};
+ghost use Rattle.scenario_faults.specs.declared.fault.Failure.TheVariants.{Faulty, Misasked};
+ghost use Rattle.scenario_reports.specs.Faulty.{AreFaulty, IsFaulty, LacksName};
 
 use expansion::expansion::{Cuts, Expansion};
 use expansion::text::expand_text;
 use scenario_faults::{
     Failure, Problem, check_settings, problem_of, read_scenario, reported, settings_of,
 };
+use scenario_reports::confirming::confirmed;
 use scenarios::scenario::Scenario;
 use std::alloc::Global;
 use std::io::Write;
@@ -69,7 +74,6 @@ fn script_of(
     settings: &[&str],
     lengths: &[u64],
 ) -> Result<String, Problem> {
-    check_settings(alloc, scenario, settings)?;
     let named = settings_of(alloc, settings)?;
     let cuts = Vec::from_slice(alloc, lengths)?;
     match expand_text(alloc, scenario, named, cuts) {
@@ -84,7 +88,8 @@ fn script_of(
     }
 }
 
-fn print_script<O: Write>(
+/// Expands a scenario, and writes its script.
+fn write_script<O: Write>(
     alloc: Global,
     scenario: &Scenario,
     settings: &[&str],
@@ -95,6 +100,28 @@ fn print_script<O: Write>(
     out.write_all(text.as_bytes())?;
     out.flush()?;
     Ok(())
+}
+
+fn print_script<O: Write>(
+    alloc: Global,
+    scenario: &Scenario,
+    settings: &[&str],
+    lengths: &[u64],
+    out: &mut O,
+) -> Result<(), Problem>
+    ensures faulty { IfErr result (λ problem. failure_of problem ≡ Faulty → AreFaulty scenario.now.lines.items (settings_of (map (λ t. t.now) settings.now))) }
+    ensures misasked { IfErr result (λ problem. failure_of problem ≡ Misasked → (has_unnamed scenario.now.lines.items (map (λ t. t.now) settings.now) ≡ true) ⊎ (lengths.now ≢ [])) }
+{
+    if let Err(problem) = check_settings(alloc, scenario, settings) {
+        return Err(problem);
+    }
+    match write_script(alloc, scenario, settings, lengths, out) {
+        Ok(()) => Ok(()),
+        Err(problem) => {
+            let is_given = !lengths.is_empty();
+            Err(confirmed(alloc, scenario, settings, is_given, problem))
+        }
+    }
 }
 
 /// Prints the script of a scenario. `name` is the name of its file. `settings` are texts `NAME=WORD`: each puts its
@@ -115,8 +142,15 @@ pub fn try_expand<O: Write, E: Write>(
     ensures silent { OnOk result (E.contents err.new ≡ E.contents err.old) }
     // A text with a fault has no script.
     ensures reads { OnOk result (IsOk (scenario_of text.now)) }
+    // Only a faulty scenario is said to be faulty.
+    ensures faulty { IfErr result (λ why. why ≡ Faulty → IsFaulty text.now (map (λ t. t.now) settings.now)) }
+    // Only what is asked for is said to be misasked: a name that no `let` has, or lengths.
+    ensures misasked { IfErr result (λ why. why ≡ Misasked → LacksName text.now (map (λ t. t.now) settings.now) ⊎ (lengths.now ≢ [])) }
 {
-    let scenario = read_scenario(alloc, name, text, err)?;
+    let scenario = match read_scenario(alloc, name, text, err) {
+        Ok(scenario) => scenario,
+        Err(why) => return Err(why),
+    };
     let printed = print_script(alloc, &scenario, settings, lengths, out);
     reported(printed, name, &scenario, err)
 }

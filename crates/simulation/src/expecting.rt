@@ -1,16 +1,16 @@
 //! Expectations.
 
-use crate::asked::Prints;
-use crate::notes::words_of;
-use crate::refusals::add_words;
 use crate::run::{Run, say};
-use crate::verdicts::{
-    Verdict, compare_count, judge_alive, judge_group, judge_killed, judge_moved, no_group,
-};
 use block_store::MemDevice;
 use driver::{Actor, Answer, Command, Stepper};
 use machine::text::Text;
 use scenario_faults::Problem;
+use scenario_reports::asked::Prints;
+use scenario_reports::notes::words_of;
+use scenario_reports::refusals::add_words;
+use scenario_reports::verdicts::{
+    Verdict, compare_count, judge_alive, judge_group, judge_killed, judge_moved, no_group,
+};
 use scenario_words::paths::is_path;
 use scenario_words::word::{Filled, is_at};
 use std::alloc::AllocError;

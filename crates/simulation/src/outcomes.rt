@@ -1,15 +1,15 @@
 //! What is printed of an entry.
 
-use crate::asked::Prints;
-use crate::refusals::{add_words, are_expected};
 use crate::run::{Course, Run, say};
-use crate::said::{Kill, Said};
-use crate::telling::{add_line, add_reason, add_task, add_tasks, add_true_path};
 use block_store::MemDevice;
 use driver::{Stepper, Word};
 use scenario_faults::Problem;
 use scenario_lines::burst::Condition;
 use scenario_pictures::{add_place, add_rounds};
+use scenario_reports::asked::Prints;
+use scenario_reports::refusals::{add_words, are_expected};
+use scenario_reports::said::{Kill, Said};
+use scenario_reports::telling::{add_line, add_reason, add_task, add_tasks, add_true_path};
 use std::alloc::AllocError;
 use std::io::Write;
 
@@ -114,7 +114,7 @@ impl<'p> Run<'p> {
                 scene,
                 self.expansion.names(),
                 scene.page(),
-                &self.watch,
+                self.watch.paths(),
                 doomed,
             )?;
             text.push(')')?;

@@ -1,10 +1,6 @@
 //! What happens in a run, as JSON.
 
-use crate::checked::Checked;
 use crate::run::Run;
-use crate::telling::{add_task, add_true_path};
-use crate::verdicts::Verdict;
-use crate::watch::Doomed;
 use block_store::MemDevice;
 use driver::{Stepper, Word};
 use machine::event::Cause;
@@ -12,6 +8,10 @@ use machine::text::Text;
 use scenario_amounts::bytes_of;
 use scenario_faults::Problem;
 use scenario_pictures::{Group, Moved, Object, add_moved, finite, open_group};
+use scenario_reports::causes::Doomed;
+use scenario_reports::checked::Checked;
+use scenario_reports::telling::{add_task, add_true_path};
+use scenario_reports::verdicts::Verdict;
 use scenario_words::word::Filled;
 use std::alloc::AllocError;
 

@@ -1,14 +1,14 @@
 //! Rows: the numbers of the machine and of its groups, for each line and round, after it was carried out.
 
-use crate::asked::Prints;
 use crate::run::{Run, say};
-use crate::telling::stats_of;
 use block_store::MemDevice;
 use driver::Stepper;
 use scenario_faults::Problem;
 use scenario_pictures::{
     Group, Level, MOST_CURVES, Machine, Place, Row, Told, csv_row, finite, row_object,
 };
+use scenario_reports::asked::Prints;
+use scenario_reports::telling::stats_of;
 use std::alloc::AllocError;
 use std::io::Write;
 

@@ -1,21 +1,21 @@
 //! The state of a run, and how its commands are carried out.
 
-use crate::asked::Asked;
-use crate::by_group::ByGroup;
-use crate::changes::Changes;
-use crate::choice::Choice;
-use crate::machines::schedule_of;
-use crate::pace::Pace;
-use crate::refusals::Refusals;
-use crate::said::Said;
 use crate::tables::Baseline;
-use crate::tasks::Tasks;
 use crate::watch::Watch;
 use block_store::MemDevice;
 use driver::{Actor, Command, Entry, Step, Stepper, Stop};
 use expansion::expansion::Expansion;
 use scenario_faults::Problem;
 use scenario_pictures::{Meter, Moved, Story};
+use scenario_reports::asked::Asked;
+use scenario_reports::by_group::ByGroup;
+use scenario_reports::changes::Changes;
+use scenario_reports::choice::Choice;
+use scenario_reports::machines::schedule_of;
+use scenario_reports::pace::Pace;
+use scenario_reports::refusals::Refusals;
+use scenario_reports::said::Said;
+use scenario_reports::tasks::Tasks;
 use scenarios::scenario::Scenario;
 use std::alloc::{AllocError, Global};
 use std::io::Write;

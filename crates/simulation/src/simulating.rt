@@ -1,14 +1,14 @@
 //! The run of a scenario.
 
-ghost use Rattle.std.specs.Prelude.{◌≡◌, ◌≤◌, IsOk, OnOk};
+ghost use Rattle.std.specs.Prelude.{◌≡◌, ◌≢◌, ◌⊎◌, ◌≤◌, [], true, map, IsOk, OnOk, IfErr};
 ghost use Rattle.scenarios.specs.Scenario.{scenario_of};
+ghost use Rattle.scenario_faults.specs.Failures.{failure_of};
+ghost use Rattle.scenario_faults.specs.Settings.{settings_of, has_unnamed};
+ghost use Rattle.scenario_faults.specs.declared.fault.Failure.TheVariants.{Faulty, Misasked};
+ghost use Rattle.scenario_reports.specs.Faulty.{AreFaulty, IsFaulty, LacksName};
 
-use crate::asked::{Asked, Prints};
-use crate::checked::{Checked, check};
-use crate::machines::{config_of, failing_of};
 use crate::outcomes::MOST_KILLS_TOLD;
 use crate::run::{Course, Run, say};
-use crate::telling::{add_late, add_totals};
 use block_store::MemDevice;
 use driver::{Actor, Stepper};
 use expansion::expansion::{Cuts, Expansion, Item};
@@ -17,6 +17,11 @@ use scenario_faults::{
     Failure, Problem, check_settings, problem_of, read_scenario, reported, settings_of,
 };
 use scenario_pictures::{Object, csv_head, picture_of};
+use scenario_reports::asked::{Asked, Prints};
+use scenario_reports::checked::{Checked, check};
+use scenario_reports::confirming::confirmed;
+use scenario_reports::machines::{config_of, failing_of};
+use scenario_reports::telling::{add_late, add_totals};
 use scenario_words::header::DeviceCall;
 use scenarios::scenario::Scenario;
 use std::alloc::{AllocError, Global};
@@ -244,13 +249,13 @@ fn carry_out<'a, O: Write>(
     ran
 }
 
-fn run_program<O: Write>(
+/// Checks a scenario, and carries it out.
+fn check_and_run<O: Write>(
     alloc: Global,
     scenario: &Scenario,
     asked: &Asked<'_>,
     out: &mut O,
 ) -> Result<bool, Problem> {
-    check_settings(alloc, scenario, asked.settings)?;
     let checked = check(alloc, scenario, asked)?;
     out.write_all(checked.rounded.as_slice())?;
     if asked.prints == Prints::Csv {
@@ -259,6 +264,27 @@ fn run_program<O: Write>(
     let well = carry_out(alloc, scenario, &checked, asked, out)?;
     out.flush()?;
     Ok(well)
+}
+
+fn run_program<O: Write>(
+    alloc: Global,
+    scenario: &Scenario,
+    asked: &Asked<'_>,
+    out: &mut O,
+) -> Result<bool, Problem>
+    ensures faulty { IfErr result (λ problem. failure_of problem ≡ Faulty → AreFaulty scenario.now.lines.items (settings_of (map (λ t. t.now) asked.now.settings.now))) }
+    ensures misasked { IfErr result (λ problem. failure_of problem ≡ Misasked → (has_unnamed scenario.now.lines.items (map (λ t. t.now) asked.now.settings.now) ≡ true) ⊎ (asked.now.groups.now ≢ [])) }
+{
+    if let Err(problem) = check_settings(alloc, scenario, asked.settings) {
+        return Err(problem);
+    }
+    match check_and_run(alloc, scenario, asked, out) {
+        Ok(well) => Ok(well),
+        Err(problem) => {
+            let is_given = !asked.groups.is_empty();
+            Err(confirmed(alloc, scenario, asked.settings, is_given, problem))
+        }
+    }
 }
 
 /// Carries out the scenario of `text`, and prints what `asked` says. A refused line ends the run unless it is expected
@@ -278,8 +304,15 @@ pub fn try_simulate<O: Write, E: Write>(
     ensures silent { OnOk result (E.contents err.new ≡ E.contents err.old) }
     // A text with a fault is not run.
     ensures reads { OnOk result (IsOk (scenario_of text.now)) }
+    // Only a faulty scenario is said to be faulty.
+    ensures faulty { IfErr result (λ why. why ≡ Faulty → IsFaulty text.now (map (λ t. t.now) asked.now.settings.now)) }
+    // Only what is asked for is said to be misasked: a name that no `let` has, or paths of groups.
+    ensures misasked { IfErr result (λ why. why ≡ Misasked → LacksName text.now (map (λ t. t.now) asked.now.settings.now) ⊎ (asked.now.groups.now ≢ [])) }
 {
-    let scenario = read_scenario(alloc, asked.name, text, err)?;
+    let scenario = match read_scenario(alloc, asked.name, text, err) {
+        Ok(scenario) => scenario,
+        Err(why) => return Err(why),
+    };
     let ran = run_program(alloc, &scenario, asked, out);
     reported(ran, asked.name, &scenario, err)
 }

@@ -1,29 +1,14 @@
-//! What came of a run, in a few numbers.
+//! The summary of a run.
 
 use crate::run::Run;
-use crate::telling::add_task;
 use block_store::MemDevice;
 use driver::Stepper;
-use scenario_pictures::Moved;
-use scenario_words::amount::PageSize;
+use scenario_reports::summary::Summary;
+use scenario_reports::telling::add_task;
 use std::alloc::AllocError;
 
 /// Names of killed tasks that are kept, at most.
 const MOST_NAMES: usize = 3;
-
-/// What came of a run.
-#[derive(Drop)]
-pub struct Summary {
-    pub page: PageSize,
-    /// What the machine moved in the last phase.
-    pub moved: Moved,
-    /// All was as expected.
-    pub well: bool,
-    /// How many tasks were killed.
-    pub killed: usize,
-    /// The names of those that were killed first.
-    pub first: Vec<String>,
-}
 
 impl<'p> Run<'p> {
     /// What came of the run so far.
@@ -43,12 +28,5 @@ impl<'p> Run<'p> {
             killed: self.tasks.dead().len(),
             first,
         })
-    }
-}
-
-impl Summary {
-    /// How many tasks were killed after those that have names here.
-    pub fn others(&self) -> usize {
-        self.killed.saturating_sub(self.first.len())
     }
 }

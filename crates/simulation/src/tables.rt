@@ -1,13 +1,13 @@
 //! Tables of groups, and the phases that they are of.
 
-use crate::asked::Prints;
-use crate::notes::rest_of;
 use crate::run::{Run, say};
-use crate::telling::{add_head, add_row, counts_of, stats_of};
 use block_store::MemDevice;
 use driver::Stepper;
 use scenario_faults::{Problem, add_path};
 use scenario_pictures::{Counts, Moved, Stats};
+use scenario_reports::asked::Prints;
+use scenario_reports::notes::rest_of;
+use scenario_reports::telling::{add_head, add_row, counts_of, stats_of};
 use scenario_words::paths::Path;
 use scenario_words::word::Filled;
 use std::alloc::AllocError;

@@ -3,17 +3,17 @@
 ghost use Rattle.std.specs.Prelude.{◌≡◌, ◌≤◌, IsOk};
 ghost use Rattle.scenarios.specs.Scenario.{scenario_of};
 
-use crate::asked::{Asked, Prints};
-use crate::checked::check;
 use crate::run::{Run, say};
 use crate::simulating::open;
-use crate::summary::Summary;
-use crate::values::Values;
-use crate::vary_rows::VaryRows;
 use block_store::MemDevice;
 use driver::Stepper;
 use expansion::expansion::{Cuts, Expansion};
 use scenario_faults::{Problem, check_named, check_settings, read_scenario, settings_of};
+use scenario_reports::asked::{Asked, Prints};
+use scenario_reports::checked::check;
+use scenario_reports::summary::Summary;
+use scenario_reports::values::Values;
+use scenario_reports::vary_rows::VaryRows;
 use scenarios::scenario::Scenario;
 use std::alloc::{AllocError, Global};
 use std::io::Write;

@@ -3,38 +3,14 @@
 ghost use Rattle.std.specs.Prelude.{◌≡◌, ◌++◌, List};
 ghost use Rattle.machine.specs.declared.command.Reply.{Reply as Told_by};
 
-use book::{Book, PageLook, Victim};
+use book::Book;
 use driver::{Answer, Closed, FailedCall, Reply, Sink};
 use machine::amount::Amount;
 use machine::event::Cause;
-use machine::id::{GroupId, TaskId};
+use machine::id::GroupId;
 use machine::text::Text;
+use scenario_reports::causes::{Doomed, Unmoved, path_at};
 use std::alloc::{AllocError, Global};
-
-/// Why a task is killed: the task and the group under which room is needed, as they were before.
-#[derive(Clone, Copy)]
-pub struct Doomed {
-    pub victim: Victim,
-    pub cause: Cause,
-    /// Pages that are charged to a group whose max was lowered.
-    pub usage: u64,
-    /// The places among the paths of that group, and of the group that dies as one.
-    pub limit: Option<usize>,
-    pub group: Option<usize>,
-    pub max: Amount,
-    /// The first two of the other tasks that were as large.
-    pub first_tied: Option<TaskId>,
-    pub second_tied: Option<TaskId>,
-}
-
-/// A page that the device could not read in or write out.
-#[derive(Clone, Copy)]
-pub struct Unmoved {
-    pub call: FailedCall,
-    pub page: PageLook,
-    /// The place among the paths of the group that is charged for the page.
-    pub group: Option<usize>,
-}
 
 /// Keeps the answers of an entry, why tasks were killed, and which page could not be moved.
 #[derive(Drop)]
@@ -129,10 +105,7 @@ impl Watch {
 
     /// The path at this place.
     pub fn path_at(&self, place: usize) -> &str {
-        match self.paths.get(place) {
-            None => "/",
-            Some(path) => path.as_str(),
-        }
+        path_at(self.paths.as_slice(), place)
     }
 
     /// Another entry begins.
@@ -224,7 +197,8 @@ impl Sink for Watch {
         self.unmoved = match book.page_in_transfer(call.ticket) {
             None => None,
             Some(page) => Some(Unmoved {
-                call,
+                direction: call.direction,
+                block: call.block,
                 page,
                 group: place_of(self.paths.as_slice(), book, page.group),
             }),

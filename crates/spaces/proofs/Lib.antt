@@ -1,3 +1,4 @@
 mod GroupLemmas
+pub mod TableLemmas
 mod PlaceLemmas
 mod TaskLemmas

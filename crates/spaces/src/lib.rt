@@ -16,7 +16,7 @@ mod page_table;
 
 use crate::page_table::PageTable;
 use machine::id::{GroupId, PageId, TaskId};
-use machine::limit::{LAST_TASK, MOST_TASKS, TASK_PAGES};
+use machine::limit::{LAST_TASK, MOST_TASKS};
 use machine::record::{Life, Task};
 use machine::refusal::Refusal;
 use std::alloc::{AllocError, Global};
@@ -174,8 +174,9 @@ impl Spaces {
     {
         self.owners();
         let group = group_of(self.task(parent));
+        let bound = self.bound(parent);
         self.spawn(child, group)?;
-        for at in 0..TASK_PAGES {
+        for at in 0..bound {
             if let Some(page) = self.page(parent, at) {
                 self.map(child, at, page);
             }
@@ -207,6 +208,17 @@ impl Spaces {
         match self.tables.get(task.0 as usize) {
             Some(table) => table.page(at),
             None => None,
+        }
+    }
+
+    /// A number that is above those of all virtual pages of the task that map a page. It is at most 1,024.
+    pub fn bound(&self, task: TaskId) -> u32
+        ensures within { result ≤ task_pages }
+        ensures above { (at : ℕ) → result ≤ at → mapped_at self.now.page_tables task.0 at ≡ None }
+    {
+        match self.tables.get(task.0 as usize) {
+            Some(table) => table.bound(),
+            None => 0,
         }
     }
 

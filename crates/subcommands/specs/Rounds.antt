@@ -8,7 +8,7 @@ use Rattle.machine.specs.declared.command.Command.{Command}
 use Rattle.machine.specs.declared.command.Command.TheVariants as command
 use Rattle.machine.specs.declared.command.Reply.{Reply}
 use Rattle.machine.specs.declared.entry.Entry.{Entry}
-use Rattle.machine.specs.State.{Opening}
+use Rattle.machine.specs.State.{Opening, State}
 use Rattle.machine.specs.History.{Numbered}
 use Rattle.live.specs.declared.history.Exchange.{Exchange}
 use Rattle.live.specs.Passes.{PassOf}
@@ -96,19 +96,19 @@ abbrev pub verdict_by : Result (Unit {0}) First → Verdict
 verdict_by (Ok done) = Fine
 verdict_by (Err first) = Wrong first.entry
 
--- the trace of a run was judged so, over these passes, and a writer got the line that says it
-pub record Concluded (opening : Opening) (passes : List PassOf) (verdict : Verdict) (before after : Option (List ℕ)) : Type 0 where
+-- the trace of a run was judged so, over these passes, and a writer got what is shown of the state that the run led to, and the line of the verdict
+pub record Concluded (opening : Opening) (passes : List PassOf) (shown : State → List ℕ) (verdict : Verdict) (before after : Option (List ℕ)) : Type 0 where
   pub entries : List Entry
   pub legal : IsLegal opening (reverse entries)
   pub numbered : Numbered (reverse entries)
   pub one_run : IsOneRun opening entries passes
   pub each : All (λ (pass : PassOf). WereGiven opening (reverse entries) pass.caller.worker pass.exchanges) passes
   pub concludes : Concludes verdict entries passes
-  pub prints : Appends before after (verdict_line verdict)
+  pub prints : Appends before after (shown one_run.past.state ++ verdict_line verdict)
 
 -- a run, all of it
-pub record RanAll (opening : Opening) (setup : List (Actor × Command)) (work : List (Actor × List Command)) (verdict : Verdict) (before after : Option (List ℕ)) : Type 0 where
+pub record RanAll (opening : Opening) (setup : List (Actor × Command)) (work : List (Actor × List Command)) (shown : State → List ℕ) (verdict : Verdict) (before after : Option (List ℕ)) : Type 0 where
   pub passes : List PassOf
   pub mid : Option (List ℕ)
   pub ran : Ran opening.watermarks setup work passes before mid
-  pub concluded : Concluded opening passes verdict mid after
+  pub concluded : Concluded opening passes shown verdict mid after

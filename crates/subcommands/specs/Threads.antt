@@ -13,7 +13,7 @@ use Rattle.machine.specs.declared.command.Command.TheVariants as command
 use Rattle.machine.specs.declared.command.Reply.{Reply}
 use Rattle.machine.specs.declared.entry.Entry.{Entry}
 use Rattle.machine.specs.Control.{line}
-use Rattle.machine.specs.State.{opening_of}
+use Rattle.machine.specs.State.{State, opening_of}
 use Rattle.machine.specs.History.{Numbered}
 use Rattle.machine.specs.FirstBytes.{first_of}
 use Rattle.machine.specs.Audit.{Passes, IsFirstWrong}
@@ -32,6 +32,7 @@ use Rattle.scripts.specs.Work.{setup_of, worked, work_of}
 use Rattle.subcommands.specs.declared.threads.Verdict.{Verdict}
 use Rattle.subcommands.specs.declared.threads.Verdict.TheVariants.{Fine, Wrong}
 use Rattle.printer.specs.Prints.{texts}
+use Rattle.shown_groups.specs.Shown.{no_text}
 
 -- by actor, what it asked the machine and was told, one exchange after another, with all bytes
 abbrev pub Board : Type 0
@@ -103,13 +104,21 @@ abbrev pub status_by : Verdict → ℕ
 status_by Fine = 0
 status_by (Wrong entry) = 1
 
--- a writer got what a run prints: its answers, those before `go` first, and the line of this verdict, and nothing else
-pub record PrintsThreads (config : Config) (setup : List (Actor × Command)) (work : List (Actor × List Command)) (verdict : Verdict) (old new : Option (List ℕ)) : Type 0 where
+-- A writer got what a run prints: its answers, those before `go` first; what is shown of the state that its one run of the machine led to; and the line of this verdict. It got nothing else. (Excludes what an earlier state shows.)
+pub record PrintsShowing (config : Config) (setup : List (Actor × Command)) (work : List (Actor × List Command)) (shown : State → List ℕ) (verdict : Verdict) (old new : Option (List ℕ)) : Type 0 where
   pub run : RunOnThreads config (pieces_of setup) work
   pub concludes : Concludes verdict run.entries run.passes
-  pub prints : Appends old new (texts run.set_up ++ texts run.answers ++ verdict_line verdict)
+  pub prints : Appends old new (texts run.set_up ++ texts run.answers ++ (shown run.one_run.past.state ++ verdict_line verdict))
 
--- no line of the script is faulty on threads, and a writer got what a run of it prints
-pub record PrintsScriptOnThreads (placement : Placement) (script : List ℕ) (verdict : Verdict) (old new : Option (List ℕ)) : Type 0 where
+-- the same of a run that shows nothing
+abbrev pub PrintsThreads : Config → List (Actor × Command) → List (Actor × List Command) → Verdict → Option (List ℕ) → Option (List ℕ) → Type 0
+PrintsThreads config setup work verdict old new = PrintsShowing config setup work no_text verdict old new
+
+-- no line of the script is faulty on threads, and a writer got what a run of it prints, with what is shown
+pub record PrintsScriptShowing (placement : Placement) (script : List ℕ) (shown : State → List ℕ) (verdict : Verdict) (old new : Option (List ℕ)) : Type 0 where
   pub faultless : IsFaultless Run (lines script)
-  pub run : PrintsThreads (record (config_of (items_of (lines script))) { placement = placement }) (setup_of (items_of (lines script))) (work_of (worked (items_of (lines script)))) verdict old new
+  pub run : PrintsShowing (record (config_of (items_of (lines script))) { placement = placement }) (setup_of (items_of (lines script))) (work_of (worked (items_of (lines script)))) shown verdict old new
+
+-- the same of a run that shows nothing
+abbrev pub PrintsScriptOnThreads : Placement → List ℕ → Verdict → Option (List ℕ) → Option (List ℕ) → Type 0
+PrintsScriptOnThreads placement script verdict old new = PrintsScriptShowing placement script no_text verdict old new

@@ -29,3 +29,13 @@ pub fn new_device(
         Err(_) => Err(Wanted::of(config, blocks)),
     }
 }
+
+/// What there was no room for, if memory was refused for a machine of this configuration.
+pub fn wanted_by(config: &Config) -> Wanted
+    requires { is_config config.now ≡ true }
+{
+    let Some(blocks) = blocks_for(config) else {
+        unreachable!()
+    };
+    Wanted::of(config, blocks)
+}

@@ -33,10 +33,13 @@ pub use fault::{Fault, Wanted};
 pub use printer::{Amounts, Options};
 use printer::{ERASE, Ended, Source, Stopped, print_run};
 use scripts::{Mode, Script, ScriptFault, one_answer};
+pub use shown_groups::{Shows, Summary};
 use std::alloc::{AllocError, Global};
 use std::io;
 use std::io::{ErrorKind, Read, Write};
-pub use threads::{MOST_ACTORS, Verdict, run, run_over, run_script_on_threads, status_of_run};
+pub use threads::{
+    MOST_ACTORS, Verdict, run, run_over, run_script_on_threads, run_script_showing, status_of_run,
+};
 
 /// The most bytes that a script may have. With this limit, a reader that never ends is refused, and takes no more
 /// memory than this.

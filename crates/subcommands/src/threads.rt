@@ -1,6 +1,6 @@
 //! Runs of scripts on threads.
 
-ghost use Rattle.std.specs.Prelude.{◌≡◌, ◌⊎◌, ℕ, ◌<◌, ◌≤◌, ◌++◌, ◌∷◌, [], true, length, IsErr, IfOk, IfErr, IfSome, OnOk, OnErr};
+ghost use Rattle.std.specs.Prelude.{◌≡◌, ◌⊎◌, ℕ, ◌<◌, ◌≤◌, ◌++◌, ◌∷◌, [], true, length, map, IsErr, IfOk, IfErr, IfSome, OnOk, OnErr};
 ghost use Rattle.std.specs.Io.KnownBytes.{Appends, Keeps};
 ghost use Rattle.std.specs.List.Sorted.{IsStrictlyIncreasing};
 ghost use Rattle.std.specs.Str.Lines.{lines};
@@ -16,21 +16,24 @@ ghost use Rattle.printer.specs.Prints.{texts};
 ghost use Rattle.subcommands.specs.declared.threads.TheConstants.{MOST_ACTORS};
 ghost use Rattle.subcommands.specs.Actors.{actors_in, actors_of_script, IsCrowd, ExplainsOnThreads};
 ghost use Rattle.subcommands.specs.Told.{IsUnread, IsOfScript, StartsReport, IsRunFault};
-ghost use Rattle.subcommands.specs.Threads.{verdict_line, status_by, PrintsThreads, PrintsScriptOnThreads};
+ghost use Rattle.subcommands.specs.Threads.{verdict_line, status_by, PrintsShowing, PrintsThreads, PrintsScriptShowing, PrintsScriptOnThreads};
+ghost use Rattle.shown_groups.specs.Shown.{paths_text, shown_text};
+ghost use Rattle.shown_groups.specs.Looks.{looks_text};
 ghost use Rattle.subcommands.specs.Rounds.{verdict_by, HiredAll, SetsUp, SaysRows, passes_in, AreHandedIn, Ran, Concluded, RanAll};
 ghost use Rattle.subcommands.specs.Crews.{Counts};
 
 use crate::crew::{Crew, new_pass};
-use crate::device::new_device;
+use crate::device::{new_device, wanted_by};
 use crate::fault::{Fault, Wanted};
 use crate::{faulty, read_script, status_of, unwritten};
 use block_store::{Locked, MemDevice, SharedDevice};
-use live::{Live, Opened, Pass, Report, Roll, Unnamed, Worker, work_together};
+use live::{EndLook, Live, Opened, Pass, Report, Roll, Unnamed, Worker, work_together};
 use machine::command::{Actor, Command, Reply};
 use machine::config::Config;
 use machine::limit::MOST_PASSES;
-use printer::{Options, write_bytes};
+use printer::{Options, paths_of, write_bytes};
 use scripts::{Mode, Script, each_actor_has_its_row, number_of, one_answer};
+use shown_groups::{Missing, Shows, Summary, write_looks};
 use std::alloc::{AllocError, Global};
 use std::collections::HashSet;
 use std::io;
@@ -160,6 +163,7 @@ fn set_up_one<L: Opened, D: SharedDevice, R: Wait, O: Write>(
     wanted: Wanted,
     actor: Actor,
     command: Command,
+    summary: &mut Summary,
     out: &mut O,
 ) -> Result<(), Fault>
     ensures whole { OnOk result (SetsUp L.opening.watermarks ((actor, command) ∷ []) crew.old.workers.items crew.new.workers.items (O.contents out.old) (O.contents out.new)) }
@@ -168,10 +172,13 @@ fn set_up_one<L: Opened, D: SharedDevice, R: Wait, O: Write>(
 {
     match crew.ask(rt, alloc, live, roll, actor, command) {
         Err(AllocError) => Err(Fault::Memory(wanted)),
-        Ok(answers) => match print_answers(alloc, &answers, out) {
-            Ok(()) => Ok(()),
-            Err(error) => Err(unwritten(wanted, error)),
-        },
+        Ok(answers) => {
+            summary.count(&answers);
+            match print_answers(alloc, &answers, out) {
+                Ok(()) => Ok(()),
+                Err(error) => Err(unwritten(wanted, error)),
+            }
+        }
     }
 }
 
@@ -184,6 +191,7 @@ fn set_up<L: Opened, D: SharedDevice, R: Wait, O: Write>(
     crew: &mut Crew<L>,
     wanted: Wanted,
     setup: Vec<(Actor, Command)>,
+    summary: &mut Summary,
     out: &mut O,
 ) -> Result<(), Fault>
     ensures whole { OnOk result (SetsUp L.opening.watermarks setup.items crew.old.workers.items crew.new.workers.items (O.contents out.old) (O.contents out.new)) }
@@ -191,7 +199,9 @@ fn set_up<L: Opened, D: SharedDevice, R: Wait, O: Write>(
     ensures why { IfErr result IsRunFault }
 {
     for (actor, command) in setup {
-        set_up_one(rt, alloc, live, roll, crew, wanted, actor, command, out)?;
+        set_up_one(
+            rt, alloc, live, roll, crew, wanted, actor, command, summary, out,
+        )?;
     }
     Ok(())
 }
@@ -201,6 +211,7 @@ fn print_row<L: Opened, O: Write>(
     alloc: Global,
     wanted: Wanted,
     worker: &Worker<L>,
+    summary: &mut Summary,
     out: &mut O,
 ) -> Result<(), Fault>
     ensures whole { OnOk result (SaysRows (worker.now ∷ []) (O.contents out.old) (O.contents out.new)) }
@@ -208,10 +219,13 @@ fn print_row<L: Opened, O: Write>(
 {
     match worker.answers() {
         Err(_) => Err(Fault::Memory(wanted)),
-        Ok(answers) => match print_answers(alloc, answers, out) {
-            Ok(()) => Ok(()),
-            Err(error) => Err(unwritten(wanted, error)),
-        },
+        Ok(answers) => {
+            summary.count(answers);
+            match print_answers(alloc, answers, out) {
+                Ok(()) => Ok(()),
+                Err(error) => Err(unwritten(wanted, error)),
+            }
+        }
     }
 }
 
@@ -220,13 +234,14 @@ fn print_rows<L: Opened, O: Write>(
     alloc: Global,
     wanted: Wanted,
     workers: &[Worker<L>],
+    summary: &mut Summary,
     out: &mut O,
 ) -> Result<(), Fault>
     ensures whole { OnOk result (SaysRows workers.now (O.contents out.old) (O.contents out.new)) }
     ensures why { IfErr result IsRunFault }
 {
     for worker in workers {
-        print_row(alloc, wanted, worker, out)?;
+        print_row(alloc, wanted, worker, summary, out)?;
     }
     Ok(())
 }
@@ -270,6 +285,7 @@ fn work_all<L: Opened + Send + Sync, D: SharedDevice + Sync, R: Threads + Wait +
     wanted: Wanted,
     setup: Vec<(Actor, Command)>,
     work: Vec<(Actor, Vec<Command>)>,
+    summary: &mut Summary,
     out: &mut O,
 ) -> Result<Vec<Pass<L>>, Fault>
     requires rows { IsStrictlyIncreasing (numbers_of (shown_rows work.items)) }
@@ -285,12 +301,14 @@ fn work_all<L: Opened + Send + Sync, D: SharedDevice + Sync, R: Threads + Wait +
         return Err(Fault::Memory(wanted));
     };
     let rows = crew.len();
-    set_up(rt, alloc, live, roll, &mut crew, wanted, setup, out)?;
+    set_up(
+        rt, alloc, live, roll, &mut crew, wanted, setup, summary, out,
+    )?;
     let Ok((workers, others)) = crew.split(rows) else {
         return Err(Fault::Memory(wanted));
     };
     let (workers, daemon) = work_together(rt, live, workers, daemon);
-    print_rows(alloc, wanted, &workers, out)?;
+    print_rows(alloc, wanted, &workers, summary, out)?;
     match all_passes(alloc, workers, others, daemon) {
         Ok(passes) => Ok(passes),
         Err(AllocError) => Err(Fault::Memory(wanted)),
@@ -313,21 +331,52 @@ fn say<O: Write>(
     }
 }
 
-/// Ends a run, and writes its verdict.
+/// Writes what the looks at these paths say.
+fn show<O: Write>(
+    alloc: Global,
+    wanted: Wanted,
+    missing: Missing,
+    paths: &[&str],
+    looks: &[Option<EndLook>],
+    out: &mut O,
+) -> Result<(), Fault>
+    requires { length looks.now ≡ length paths.now }
+    ensures whole { OnOk result (Appends (O.contents out.old) (O.contents out.new) (looks_text missing (map (λ p. p.now) paths.now) looks.now)) }
+    ensures why { IfErr result IsRunFault }
+{
+    match write_looks(alloc, missing, paths, looks, out) {
+        Ok(()) => Ok(()),
+        Err(error) => Err(unwritten(wanted, error)),
+    }
+}
+
+/// Ends a run. Writes what the groups of these paths are at its end, and its verdict.
 fn conclude<L: Opened, D: SharedDevice + Drop, O: Write>(
     alloc: Global,
     live: Live<L, D>,
     wanted: Wanted,
     passes: Vec<Pass<L>>,
     roll: Roll<L>,
+    missing: Missing,
+    paths: &[&str],
+    summary: &mut Summary,
     out: &mut O,
 ) -> Result<Verdict, Fault>
     requires { AreHandedIn roll.given passes.items }
-    ensures whole { IfOk result (λ verdict. Concluded L.opening passes.items verdict (O.contents out.old) (O.contents out.new)) }
+    ensures whole { IfOk result (λ verdict. Concluded L.opening passes.items (λ s. paths_text missing s (map (λ p. p.now) paths.now)) verdict (O.contents out.old) (O.contents out.new)) }
     ensures why { IfErr result IsRunFault }
 {
-    match live.finish(passes, roll) {
-        Ok(report) => say(alloc, wanted, verdict_of(&report), out),
+    let mut room = Vec::new(alloc);
+    if room.reserve(paths.len()).is_err() {
+        live.give_up(roll);
+        return Err(Fault::Memory(wanted));
+    }
+    match live.finish_with_looks(passes, roll, paths, room) {
+        Ok((report, looks)) => {
+            summary.count_moved(report.trace.entries());
+            show(alloc, wanted, missing, paths, &looks, out)?;
+            say(alloc, wanted, verdict_of(&report), out)
+        }
         Err((live, _passes, _cause, roll)) => {
             live.give_up(roll);
             unreachable!()
@@ -349,20 +398,77 @@ fn run_live<
     wanted: Wanted,
     setup: Vec<(Actor, Command)>,
     work: Vec<(Actor, Vec<Command>)>,
+    missing: Missing,
+    paths: &[&str],
+    summary: &mut Summary,
     out: &mut O,
 ) -> Result<Verdict, Fault>
     requires rows { IsStrictlyIncreasing (numbers_of (shown_rows work.items)) }
     requires fresh { roll.given ≡ 0 }
-    ensures whole { IfOk result (λ verdict. RanAll L.opening setup.items (shown_rows work.items) verdict (O.contents out.old) (O.contents out.new)) }
+    ensures whole { IfOk result (λ verdict. RanAll L.opening setup.items (shown_rows work.items) (λ s. paths_text missing s (map (λ p. p.now) paths.now)) verdict (O.contents out.old) (O.contents out.new)) }
     ensures why { IfErr result IsRunFault }
 {
     let mut roll = roll;
-    match work_all(rt, alloc, &live, &mut roll, wanted, setup, work, out) {
-        Ok(passes) => conclude(alloc, live, wanted, passes, roll, out),
+    match work_all(
+        rt, alloc, &live, &mut roll, wanted, setup, work, summary, out,
+    ) {
+        Ok(passes) => conclude(
+            alloc, live, wanted, passes, roll, missing, paths, summary, out,
+        ),
         Err(fault) => {
             live.give_up(roll);
             Err(fault)
         }
+    }
+}
+
+/// The same as [`run_over`], and before the verdict it writes what the groups of these paths are at the end.
+fn show_over<
+    L: Opened + Send + Sync,
+    D: SharedDevice + Sync + Drop,
+    R: Threads + Wait + Sync,
+    O: Write,
+>(
+    rt: &R,
+    alloc: Global,
+    script: Script,
+    device: D,
+    unnamed: Unnamed,
+    missing: Missing,
+    paths: &[&str],
+    summary: &mut Summary,
+    out: &mut O,
+) -> Result<Verdict, Fault>
+    requires named { unnamed ≡ L.table }
+    requires opened { opening_of script.config ≡ L.opening }
+    requires fits { blocks_in L.opening ≤ D.extent device }
+    requires rows { IsStrictlyIncreasing (numbers_of (shown_rows script.work.items)) }
+    ensures whole { IfOk result (λ verdict. PrintsShowing script.config script.setup.items (shown_rows script.work.items) (λ s. paths_text missing s (map (λ p. p.now) paths.now)) verdict (O.contents out.old) (O.contents out.new)) }
+    ensures crowd { MOST_ACTORS < actors_in script.setup.items (shown_rows script.work.items) → IsErr result × (O.contents out.new ≡ O.contents out.old) }
+    ensures why { IfErr result (λ why. IsCrowd (actors_in script.setup.items (shown_rows script.work.items)) why ⊎ IsRunFault why) }
+    ensures unrun { IfErr result (λ why. IsOfScript why → O.contents out.new ≡ O.contents out.old) }
+{
+    let Script {
+        config,
+        setup,
+        work,
+        ..
+    } = script;
+    let wanted = Wanted::of(&config, device.blocks());
+    refuse_crowd(alloc, wanted, &setup, &work)?;
+    let Ok((live, roll)) = Live::<L, D>::open(alloc, config, device, unnamed) else {
+        return Err(Fault::Memory(wanted));
+    };
+    let ran = run_live(
+        rt, alloc, live, roll, wanted, setup, work, missing, paths, summary, out,
+    );
+    let flushed = out.flush();
+    match ran {
+        Err(fault) => Err(fault),
+        Ok(verdict) => match flushed {
+            Ok(()) => Ok(verdict),
+            Err(error) => Err(unwritten(wanted, error)),
+        },
     }
 }
 
@@ -396,26 +502,11 @@ pub fn run_over<
     // It says so only where nothing was run.
     ensures unrun { IfErr result (λ why. IsOfScript why → O.contents out.new ≡ O.contents out.old) }
 {
-    let Script {
-        config,
-        setup,
-        work,
-        ..
-    } = script;
-    let wanted = Wanted::of(&config, device.blocks());
-    refuse_crowd(alloc, wanted, &setup, &work)?;
-    let Ok((live, roll)) = Live::<L, D>::open(alloc, config, device, unnamed) else {
-        return Err(Fault::Memory(wanted));
-    };
-    let ran = run_live(rt, alloc, live, roll, wanted, setup, work, out);
-    let flushed = out.flush();
-    match ran {
-        Err(fault) => Err(fault),
-        Ok(verdict) => match flushed {
-            Ok(()) => Ok(verdict),
-            Err(error) => Err(unwritten(wanted, error)),
-        },
-    }
+    let summary = &mut Summary::new();
+    let (missing, paths): (Missing, &[&str]) = (Missing::Told, &[]);
+    show_over::<L, D, R, O>(
+        rt, alloc, script, device, unnamed, missing, paths, summary, out,
+    )
 }
 
 /// Runs a script that was read, over a new device.
@@ -423,11 +514,14 @@ fn run_new<R: Threads + Wait + Sync, O: Write>(
     rt: &R,
     alloc: Global,
     script: Script,
+    missing: Missing,
+    paths: &[&str],
+    summary: &mut Summary,
     out: &mut O,
 ) -> Result<Verdict, Fault>
     requires limits { is_config script.config ≡ true }
     requires rows { IsStrictlyIncreasing (numbers_of (shown_rows script.work.items)) }
-    ensures whole { IfOk result (λ verdict. PrintsThreads script.config script.setup.items (shown_rows script.work.items) verdict (O.contents out.old) (O.contents out.new)) }
+    ensures whole { IfOk result (λ verdict. PrintsShowing script.config script.setup.items (shown_rows script.work.items) (λ s. paths_text missing s (map (λ p. p.now) paths.now)) verdict (O.contents out.old) (O.contents out.new)) }
     ensures crowd { MOST_ACTORS < actors_in script.setup.items (shown_rows script.work.items) → IsErr result × (O.contents out.new ≡ O.contents out.old) }
     ensures why { IfErr result (λ why. IsCrowd (actors_in script.setup.items (shown_rows script.work.items)) why ⊎ IsRunFault why) }
     ensures unrun { IfErr result (λ why. IsOfScript why → O.contents out.new ≡ O.contents out.old) }
@@ -446,20 +540,54 @@ fn run_new<R: Threads + Wait + Sync, O: Write>(
         let wanted = Wanted::of(&script.config, device.blocks());
         return Err(Fault::Memory(wanted));
     };
-    run_over::<Brand, Locked<MemDevice>, R, O>(rt, alloc, script, device, unnamed, out)
+    show_over::<Brand, Locked<MemDevice>, R, O>(
+        rt, alloc, script, device, unnamed, missing, paths, summary, out,
+    )
+}
+
+/// Runs a script that was read from these bytes, and shows all groups that it makes and that exist at the end.
+fn show_all<R: Threads + Wait + Sync, O: Write>(
+    rt: &R,
+    alloc: Global,
+    bytes: &[u8],
+    script: Script,
+    summary: &mut Summary,
+    out: &mut O,
+) -> Result<Verdict, Fault>
+    requires limits { is_config script.config ≡ true }
+    requires rows { IsStrictlyIncreasing (numbers_of (shown_rows script.work.items)) }
+    ensures whole { IfOk result (λ verdict. PrintsShowing script.config script.setup.items (shown_rows script.work.items) (shown_text Shows.All bytes.now) verdict (O.contents out.old) (O.contents out.new)) }
+    ensures crowd { MOST_ACTORS < actors_in script.setup.items (shown_rows script.work.items) → IsErr result × (O.contents out.new ≡ O.contents out.old) }
+    ensures why { IfErr result (λ why. IsCrowd (actors_in script.setup.items (shown_rows script.work.items)) why ⊎ IsRunFault why) }
+    ensures unrun { IfErr result (λ why. IsOfScript why → O.contents out.new ≡ O.contents out.old) }
+{
+    let wanted = wanted_by(&script.config);
+    // No line is faulty in a schedule and sound on threads. So this fails only if memory runs out.
+    let Ok(scheduled) = scripts::read(alloc, bytes, Mode::Schedule) else {
+        return Err(Fault::Memory(wanted));
+    };
+    let Ok(paths) = paths_of(alloc, &scheduled.schedule) else {
+        return Err(Fault::Memory(wanted));
+    };
+    run_new(rt, alloc, script, Missing::Skipped, &paths, summary, out)
 }
 
 /// Runs a script on threads, over a new device, which has the blocks and the faults that the script asks for. In the
 /// fault, the script's file has the name `file`.
-pub fn run_script_on_threads<R: Threads + Wait + Sync, O: Write>(
+///
+/// When all actors have ended, and before the verdict, it writes the files of the groups that are to be shown. They
+/// say what they say in the state in which the run ended. `summary` gets what the run did, in numbers.
+pub fn run_script_showing<R: Threads + Wait + Sync, O: Write>(
     rt: &R,
     alloc: Global,
     options: Options,
+    shows: Shows<'_>,
     file: &str,
     script: &[u8],
+    summary: &mut Summary,
     out: &mut O,
 ) -> Result<Verdict, Fault>
-    ensures whole { IfOk result (λ verdict. PrintsScriptOnThreads options.placement script.now verdict (O.contents out.old) (O.contents out.new)) }
+    ensures whole { IfOk result (λ verdict. PrintsScriptShowing options.placement script.now (shown_text shows.entry script.now) verdict (O.contents out.old) (O.contents out.new)) }
     ensures faulty { (n : ℕ) (cause : Cause) → IsFirstFault Run (lines script.now) n cause → IsErr result × (O.contents out.new ≡ O.contents out.old) }
     // A script with more actors than can run at once is refused, and nothing is run.
     ensures crowd { MOST_ACTORS < actors_of_script script.now → IsErr result × (O.contents out.new ≡ O.contents out.old) }
@@ -470,12 +598,37 @@ pub fn run_script_on_threads<R: Threads + Wait + Sync, O: Write>(
     one_answer();
     each_actor_has_its_row();
     match scripts::read(alloc, script, Mode::Run) {
-        Ok(mut script) => {
-            script.config.placement = options.placement;
-            run_new(rt, alloc, script, out)
+        Ok(mut read) => {
+            read.config.placement = options.placement;
+            match shows {
+                Shows::All => show_all(rt, alloc, script, read, summary, out),
+                Shows::These(paths) => {
+                    run_new(rt, alloc, read, Missing::Told, paths, summary, out)
+                }
+            }
         }
         Err(fault) => Err(faulty(alloc, options, file, script, Mode::Run, fault)),
     }
+}
+
+/// The same, and shows no groups.
+pub fn run_script_on_threads<R: Threads + Wait + Sync, O: Write>(
+    rt: &R,
+    alloc: Global,
+    options: Options,
+    file: &str,
+    script: &[u8],
+    out: &mut O,
+) -> Result<Verdict, Fault>
+    ensures whole { IfOk result (λ verdict. PrintsScriptOnThreads options.placement script.now verdict (O.contents out.old) (O.contents out.new)) }
+    ensures faulty { (n : ℕ) (cause : Cause) → IsFirstFault Run (lines script.now) n cause → IsErr result × (O.contents out.new ≡ O.contents out.old) }
+    ensures crowd { MOST_ACTORS < actors_of_script script.now → IsErr result × (O.contents out.new ≡ O.contents out.old) }
+    ensures why { IfErr result (ExplainsOnThreads options file.now script.now) }
+    ensures unrun { IfErr result (λ why. IsOfScript why → O.contents out.new ≡ O.contents out.old) }
+{
+    let mut summary = Summary::new();
+    let shows = Shows::These(&[]);
+    run_script_showing(rt, alloc, options, shows, file, script, &mut summary, out)
 }
 
 /// The exit status of a run on threads: 0 for the verdict that all is fine, and 1 for another verdict or a fault.

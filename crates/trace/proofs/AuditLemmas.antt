@@ -11,7 +11,7 @@ pub passes-more : (first : Spot → ℕ) (xs : List Entry) (k : ℕ) (e : Entry)
 passes-more first xs k e lt is h good =
     subst (λ (history : List Entry). Passes first history) (sym (before-more xs k e lt is)) ((h.0, good.0), (h.1, good.1))
 
-passes-last : (first : Spot → ℕ) (xs : List Entry) (k : ℕ) (e : Entry) → k < length xs → e ≡ get_or xs k e → Passes first (before xs (k + 1)) → IsGood first (before xs k) e
+pub passes-last : (first : Spot → ℕ) (xs : List Entry) (k : ℕ) (e : Entry) → k < length xs → e ≡ get_or xs k e → Passes first (before xs (k + 1)) → IsGood first (before xs k) e
 passes-last first xs k e lt is h =
     let whole = subst (λ (history : List Entry). Passes first history) (before-more xs k e lt is) h in
     (whole.0.1, whole.1.1)
@@ -33,7 +33,7 @@ passes-earlier first [] earlier h = h
 passes-earlier first (entry ∷ later) earlier h = passes-earlier first later earlier (h.0.0, h.1.0)
 
 -- what holds of all holds of the first so many
-passes-before : (first : Spot → ℕ) (xs : List Entry) (k : ℕ) → Passes first (reverse xs) → Passes first (before xs k)
+pub passes-before : (first : Spot → ℕ) (xs : List Entry) (k : ℕ) → Passes first (reverse xs) → Passes first (before xs k)
 passes-before first xs k h =
     passes-earlier first (reverse (drop k xs)) (before xs k) (subst (λ (history : List Entry). Passes first history) (sym (reverse-before xs k)) h)
 

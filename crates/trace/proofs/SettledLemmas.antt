@@ -1,5 +1,6 @@
 -- Bytes of an arrival, settled entry by entry.
 use Rattle.std.proofs.Common.{◌≡◌, ℕ, ◌-◌, ◌<◌, ◌≤◌, ◌==◌, Bool, true, false, cond, List, ap, sym, ◌∙◌, refl, subst, length, get_or, replicate, MatchBool, inl, inr, ◌⊎◌}
+use Rattle.std.specs.Prelude.{slice_index}
 use Rattle.std.proofs.lemmas.List.{get_or-replicate}
 use Rattle.std.proofs.lemmas.Bool.{false≢true}
 use Rattle.machine.specs.Access.{page_size}
@@ -59,6 +60,13 @@ pub settled-ends : (bytes : List ℕ) (settled : List Bool) (written earlier : �
     → MatchBool answer (RestIs bytes settled earlier) (RestIs bytes settled earlier → ⊥) → MatchBool answer (AreBytes bytes written) (AreBytes bytes written → ⊥)
 settled-ends bytes settled written earlier true h rest = bytes-rest bytes settled written earlier h rest
 settled-ends bytes settled written earlier false h wrong = λ same. wrong (rest-bytes bytes settled written earlier h same)
+
+-- the rest is known
+pub settled-known : (bytes : List ℕ) (settled : List Bool) (written earlier : ℕ → ℕ) (known : List ℕ) (answer : Bool) → IsSettled bytes settled written earlier → AreBytes known earlier
+    → MatchBool answer (RestIs bytes settled (slice_index known)) (RestIs bytes settled (slice_index known) → ⊥) → MatchBool answer (AreBytes bytes written) (AreBytes bytes written → ⊥)
+settled-known bytes settled written earlier known true h are rest = bytes-rest bytes settled written earlier h (λ o lt left. rest o lt left ∙ are o lt)
+settled-known bytes settled written earlier known false h are wrong =
+    λ same. wrong (λ o lt left. rest-bytes bytes settled written earlier h same o lt left ∙ sym (are o lt))
 
 -- a turn of the walk
 pub settled-turn : (bytes : List ℕ) (old new : List Bool) (written : ℕ → ℕ) (first : Spot → ℕ) (xs : List Entry) (k : ℕ) (e : Entry) (page : Page) (answer turn : Turn)

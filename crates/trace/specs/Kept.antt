@@ -17,4 +17,6 @@ pub record IsTrace (t : Inside) : Type 0 where
   pub arrivals : AreArrivals t.entries.items t.arrivals.items
   pub entries_room : t.limit ≤ vec_capacity t.entries
   pub links_room : t.limit ≤ vec_capacity t.links
+  pub found_sized : length t.found.items ≡ length t.entries.items
+  pub found_room : t.limit ≤ vec_capacity t.found
   pub few : t.limit ≤ 1048576

@@ -6,3 +6,4 @@ pub mod Arrivals
 pub mod Traces
 pub mod Kept
 pub mod Settled
+pub mod Found

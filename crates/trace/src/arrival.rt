@@ -3,13 +3,14 @@
 ghost use Rattle.std.specs.Prelude.{ℕ, ◌≤◌, MatchBool, length, reverse, slice_index};
 ghost use Rattle.machine.specs.History.{Spot, HoldsLast, follow, says, fetch_of, last};
 ghost use Rattle.machine.specs.FirstBytes.{first_of, byte_or_zero};
-ghost use Rattle.machine.specs.Audit.{before};
+ghost use Rattle.machine.specs.Audit.{before, Passes};
 ghost use Rattle.trace.specs.Links.{IsStand, wrote, wrote_at};
 ghost use Rattle.trace.specs.Walks.{spot_in, bytes_of};
 ghost use Rattle.trace.specs.Settled.{IsSettled, AreBytes, RestIs, Turned, Settles, or_byte};
 
 use crate::effect::{Effect, effect_of};
 use crate::entries::Trace;
+use crate::found::known_bytes;
 use crate::link::wrote;
 use crate::page::{Page, page_of};
 use crate::step::{Back, Stand, step_back};
@@ -145,14 +146,19 @@ fn settle_own(entry: &Entry, bytes: &[u8; PAGE_BYTES], settled: &mut [bool; PAGE
     }
 }
 
-/// Whether these are the bytes last written to a page, which has a link.
-fn is_last(trace: &Trace, stand: Stand, bytes: &[u8; PAGE_BYTES]) -> bool
-    requires { IsStand trace.now.entries stand }
+/// Whether these are the bytes last written to a page, which has a link. The entries before `end` pass.
+fn is_last(trace: &Trace, end: usize, stand: Stand, bytes: &[u8; PAGE_BYTES]) -> bool
+    requires within { end ≤ length trace.now.entries }
+    requires good { Passes (first_of (reverse trace.now.entries)) (before trace.now.entries end) }
+    requires stand { IsStand trace.now.entries stand }
     ensures { let same = AreBytes bytes.now (λ o. last (first_of (reverse trace.now.entries)) (before trace.now.entries stand.at) (spot_in stand.page o)) in MatchBool result same (same → ⊥) }
 {
     let mut settled = [false; PAGE_BYTES];
     let mut stand = stand;
     'walk: loop {
+        if let Some(known) = known_bytes(trace, end, stand) {
+            return rest_agrees(bytes, &settled, known.bytes());
+        }
         match step_back(trace, stand) {
             Back::Unknown => {
                 return rest_is_last(trace, stand.at, stand.page, bytes, &mut settled);
@@ -168,9 +174,11 @@ fn is_last(trace: &Trace, stand: Stand, bytes: &[u8; PAGE_BYTES]) -> bool
     }
 }
 
-/// Whether an arrival before this place of the trace brought what was last written when its read-in began.
+/// Whether an arrival before this place of the trace brought what was last written when its read-in began. The entries
+/// before it pass.
 pub fn is_brought(trace: &Trace, end: usize, ticket: TicketId, bytes: &PageBytes) -> bool
-    requires { end ≤ length trace.now.entries }
+    requires within { end ≤ length trace.now.entries }
+    requires good { Passes (first_of (reverse trace.now.entries)) (before trace.now.entries end) }
     ensures { let holds = HoldsLast (first_of (reverse trace.now.entries)) bytes.now (fetch_of ticket.0 (before trace.now.entries end)) in MatchBool result holds (holds → ⊥) }
 {
     match trace.read_in(end, ticket) {
@@ -180,7 +188,7 @@ pub fn is_brought(trace: &Trace, end: usize, ticket: TicketId, bytes: &PageBytes
                 page: page_of(read_in.access.task, read_in.access.place),
                 link: trace.link(read_in.at),
             };
-            is_last(trace, stand, bytes.bytes())
+            is_last(trace, end, stand, bytes.bytes())
         }
         None => false,
     }

@@ -22,9 +22,10 @@ pub struct First {
     pub entry: usize,
 }
 
-/// Whether the entry at this place, if it is a read, returned the byte last written.
+/// Whether the entry at this place, if it is a read, returned the byte last written. The entries before it pass.
 fn is_right(trace: &Trace, at: usize, entry: &Entry) -> bool
     requires within { at < length trace.now.entries }
+    requires good { Passes (first_of (reverse trace.now.entries)) (before trace.now.entries at) }
     requires own { entry.now ≡ slice_index_or trace.now.entries at entry.now }
     ensures { let right = IsRight (first_of (reverse trace.now.entries)) (before trace.now.entries at) entry.now.event entry.now.reply in MatchBool result right (right → ⊥) }
 {
@@ -40,7 +41,7 @@ fn is_right(trace: &Trace, at: usize, entry: &Entry) -> bool
                     page: page_of(*task, *place),
                     link: trace.link(at),
                 };
-                *byte == linked_last(trace, stand, offset_of(*place))
+                *byte == linked_last(trace, at, stand, offset_of(*place))
             }
             _ => true,
         },
@@ -48,9 +49,10 @@ fn is_right(trace: &Trace, at: usize, entry: &Entry) -> bool
     }
 }
 
-/// Whether the entry at this place, if it is an arrival, brought what was last written.
+/// Whether the entry at this place, if it is an arrival, brought what was last written. The entries before it pass.
 fn is_honest(trace: &Trace, at: usize, entry: &Entry) -> bool
-    requires { at < length trace.now.entries }
+    requires within { at < length trace.now.entries }
+    requires good { Passes (first_of (reverse trace.now.entries)) (before trace.now.entries at) }
     ensures { let honest = IsHonest (first_of (reverse trace.now.entries)) (before trace.now.entries at) entry.now.event in MatchBool result honest (honest → ⊥) }
 {
     match &entry.event {
@@ -59,10 +61,11 @@ fn is_honest(trace: &Trace, at: usize, entry: &Entry) -> bool
     }
 }
 
-/// Whether the entry at this place is neither a wrong arrival nor a wrong read.
+/// Whether the entry at this place is neither a wrong arrival nor a wrong read. The entries before it pass.
 fn is_good(trace: &Trace, at: usize, entry: &Entry) -> bool
     requires within { at < length trace.now.entries }
     requires own { entry.now ≡ slice_index_or trace.now.entries at entry.now }
+    requires good { Passes (first_of (reverse trace.now.entries)) (before trace.now.entries at) }
     ensures { let good = IsGood (first_of (reverse trace.now.entries)) (before trace.now.entries at) entry.now in MatchBool result good (good → ⊥) }
 {
     is_honest(trace, at, entry) && is_right(trace, at, entry)

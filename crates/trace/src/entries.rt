@@ -10,6 +10,7 @@ ghost use Rattle.trace.specs.Walks.{bytes_of, fetched_at, page_at};
 
 use crate::fetch::{ReadIn, fetch_of};
 use crate::first_arrivals::{known_arrival, note_arrival};
+use crate::found::note_found;
 use crate::heads::{Heads, rows_of};
 use crate::link::{Link, accessed};
 use crate::row::Row;
@@ -23,12 +24,15 @@ use std::marker::Model;
 /// which entry determines its page before it, so an audit need not search for that entry.
 ///
 /// A contract sees the list of entries and the most entries that are allowed. All memory except that for tasks is
-/// allocated at the opening. Each allowed entry takes its room and 8 bytes, and each page of a file takes 16 bytes.
+/// allocated at the opening. Each allowed entry takes its room and 12 bytes, and each page of a file takes 16 bytes.
 #[derive(Drop)]
 pub struct Trace {
     entries: Vec<Entry>,
     /// By an entry's place, counted from 0: its link.
     links: Vec<Link>,
+    /// By an entry's place, counted from 0: the place, counted from 1, of the first arrival that found the bytes which
+    /// the entry left. With 0 there is none.
+    found: Vec<u32>,
     /// By page: the link that the next entry would have if it accessed the page.
     heads: Heads,
     /// By file's number and page: what is known of its first arrival.
@@ -67,11 +71,13 @@ impl Trace {
     {
         let entries = Vec::with_capacity(alloc, limit)?;
         let links = Vec::with_capacity(alloc, limit)?;
+        let found = Vec::with_capacity(alloc, limit)?;
         let heads = Heads::open(alloc, files)?;
         let arrivals = rows_of(alloc, files)?;
         Ok(Trace {
             entries,
             links,
+            found,
             heads,
             arrivals,
             limit,
@@ -104,8 +110,10 @@ impl Trace {
         let link = link_of(&self.heads, &entry);
         self.heads.note(&entry, self.entries.len() as u32);
         note_arrival(&mut self.arrivals, &self.entries, &entry);
+        note_found(&mut self.found, &self.links, &self.entries, &entry);
         self.entries.push_reserved(entry);
         self.links.push_reserved(link);
+        self.found.push_reserved(0);
     }
 
     /// How many entries there are.
@@ -136,6 +144,7 @@ impl Trace {
         let Trace {
             entries,
             links: _,
+            found: _,
             heads: _,
             arrivals: _,
             limit: _,
@@ -157,6 +166,12 @@ impl Trace {
         ensures { IsLinkAt self.now.entries at result }
     {
         self.links[at]
+    }
+
+    /// The place of an arrival that found the bytes which the entry at this place left. Places are counted from 0.
+    pub(crate) fn found_after(&self, at: usize) -> Option<usize> {
+        let place = self.found.get(at)?;
+        (*place as usize).checked_sub(1)
     }
 
     /// What the first arrival of this page of the file in the whole trace brought.

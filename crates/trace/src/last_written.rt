@@ -1,15 +1,16 @@
 //! The byte last written.
 
-ghost use Rattle.std.specs.Prelude.{◌≡◌, ℕ, ◌≤◌, length, reverse};
+ghost use Rattle.std.specs.Prelude.{◌≡◌, ℕ, ◌≤◌, IfSome, length, reverse};
 ghost use Rattle.machine.specs.History.{Spot, says, follow, last};
 ghost use Rattle.machine.specs.FirstBytes.{first_of};
-ghost use Rattle.machine.specs.Audit.{before};
+ghost use Rattle.machine.specs.Audit.{before, Passes};
 ghost use Rattle.trace.specs.Links.{IsStand, wrote, wrote_at, or_some};
 ghost use Rattle.trace.specs.Walks.{spot_in, looked};
 
 use crate::effect::{Effect, effect_of};
 use crate::entries::Trace;
 use crate::first_arrivals::byte_or_zero;
+use crate::found::known_bytes;
 use crate::link::wrote;
 use crate::page::Page;
 use crate::step::{Back, Stand, step_back};
@@ -81,13 +82,31 @@ fn written_at(entry: &Entry, offset: u32) -> Option<u8>
     }
 }
 
-/// The byte last written at an offset of a page, which has a link.
-pub fn linked_last(trace: &Trace, stand: Stand, offset: u32) -> u8
-    requires { IsStand trace.now.entries stand }
+/// The byte that is known of an arrival.
+fn known_byte(trace: &Trace, end: usize, stand: Stand, offset: u32) -> Option<u8>
+    requires within { end ≤ length trace.now.entries }
+    requires good { Passes (first_of (reverse trace.now.entries)) (before trace.now.entries end) }
+    requires stand { IsStand trace.now.entries stand }
+    ensures { IfSome result (λ byte. byte ≡ last (first_of (reverse trace.now.entries)) (before trace.now.entries stand.at) (spot_in stand.page offset)) }
+{
+    match known_bytes(trace, end, stand) {
+        Some(known) => known.bytes().get(offset as usize).copied(),
+        None => None,
+    }
+}
+
+/// The byte last written at an offset of a page, which has a link. The entries before `end` pass.
+pub fn linked_last(trace: &Trace, end: usize, stand: Stand, offset: u32) -> u8
+    requires within { end ≤ length trace.now.entries }
+    requires good { Passes (first_of (reverse trace.now.entries)) (before trace.now.entries end) }
+    requires stand { IsStand trace.now.entries stand }
     ensures { result ≡ last (first_of (reverse trace.now.entries)) (before trace.now.entries stand.at) (spot_in stand.page offset) }
 {
     let mut stand = stand;
     'walk: loop {
+        if let Some(byte) = known_byte(trace, end, stand, offset) {
+            return byte;
+        }
         match step_back(trace, stand) {
             Back::Unknown => return last(trace, stand.at, stand.page, offset),
             Back::First => return first_byte(trace, stand.page, offset),

@@ -46,7 +46,8 @@ pub fn judge(
     }
 }
 
-fn judge_task(task: u32, command: &Command) -> Result<Stage, Refusal>
+/// The same for a task. No command of a task has a path, so nothing is looked up.
+pub fn judge_task(task: u32, command: &Command) -> Result<Stage, Refusal>
     ensures judged { result ≡ task_judged task command.now }
     ensures holds { IfOk result (λ stage. holds stage ≡ false) }
 {

@@ -1,10 +1,10 @@
 -- Which runs a walk made.
-use Rattle.std.specs.Prelude.{◌≡◌, ℕ, ◌+◌, ◌<◌, List, [], ◌∷◌, ◌++◌, length, All as Each}
+use Rattle.std.specs.Prelude.{◌≡◌, ℕ, ◌+◌, ◌<◌, ◌≤◌, List, [], ◌∷◌, ◌++◌, length, All as Each}
 use Rattle.orders.specs.Paths.{Tree, paths}
 use Rattle.orders.specs.Course.{Course, taken, IsThrough}
 use Rattle.orders.specs.Runs.{Run, turns, IsRun, AreAllRuns, IsWalk}
 use Rattle.walks.specs.declared.Walk.{Walk}
-use Rattle.walks.specs.declared.Walk.TheVariants.{All, Stopped, TooDeep}
+use Rattle.walks.specs.declared.Walk.TheVariants.{All, Stopped, TooDeep, Sample}
 
 -- all runs were made and gathered, and this is their number. (Excludes a walk that leaves a run out and says all.)
 pub record MadeAll {M : Type 0} (gathered : M → List Run → Type 0) (machine : M) (depth count : ℕ) : Type 0 where
@@ -25,6 +25,26 @@ abbrev pub IsWalked : {M : Type 0} → (M → List Run → Type 0) → M → ℕ
 IsWalked gathered machine depth most (All count) = MadeAll gathered machine depth count
 IsWalked gathered machine depth most Stopped = MadeSome gathered machine depth most
 IsWalked gathered machine depth most TooDeep = (runs : List Run) × (length runs < most) × gathered machine runs
+IsWalked gathered machine depth most (Sample count) = ⊥
+
+-- ---- a sample
+
+-- no run is longer than this
+abbrev pub AreShort : ℕ → List Run → Type 0
+AreShort depth runs = Each (λ (run : Run). length run ≤ depth) runs
+
+-- these runs were drawn and gathered, and no others. One run may have been drawn more than once. (Excludes a run that is made but not gathered.)
+pub record Draws {M : Type 0} (gathered : M → List Run → Type 0) (machine : M) (depth count : ℕ) : Type 0 where
+  pub runs : List Run
+  pub count_is : length runs ≡ count
+  pub short : AreShort depth runs
+  pub gathers : gathered machine runs
+
+abbrev pub IsSampled : {M : Type 0} → (M → List Run → Type 0) → M → ℕ → ℕ → Walk → Type 0
+IsSampled gathered machine depth most (Sample count) = (count ≡ most) × Draws gathered machine depth most
+IsSampled gathered machine depth most TooDeep = (count : ℕ) × (count < most) × Draws gathered machine depth count
+IsSampled gathered machine depth most (All count) = ⊥
+IsSampled gathered machine depth most Stopped = ⊥
 
 -- ---- on the way
 
@@ -34,6 +54,16 @@ pub record MadeSoFar {M : Type 0} (gathered : M → List Run → Type 0) (machin
   pub walk : IsWalk depth runs course
   pub count_is : length runs ≡ count
   pub gathers : gathered machine runs
+
+-- some turns were taken since the run began, this many
+pub record Taken {M : Type 0} (came : M → Run → Type 0) (machine : M) (count : ℕ) : Type 0 where
+  pub run : Run
+  pub count_is : length run ≡ count
+  pub comes : came machine run
+
+-- another run was drawn
+pub record DrawsOne {M : Type 0} (gathered : M → List Run → Type 0) (old new : M) (depth : ℕ) : Type 0 where
+  pub one : (runs : List Run) → gathered old runs → (run : Run) × (length run ≤ depth) × gathered new (runs ++ run ∷ [])
 
 -- a turn was taken
 pub record Goes {M : Type 0} (came : M → Run → Type 0) (gathered : M → List Run → Type 0) (old new : M) (before after : Course) : Type 0 where

@@ -4,6 +4,8 @@
 //! ready again.
 #![tactic(auto)]
 
+mod sample;
+
 ghost use Rattle.std.specs.Prelude.{◌≡◌, ℕ, ◌+◌, ◌-◌, ◌<◌, ◌≤◌, [], ◌∷◌, ◌++◌, List, length, Contains, IfOk, OnOk, Ok, true, false};
 ghost use Rattle.std.specs.List.Sorted.{IsStrictlyIncreasing};
 ghost use Rattle.orders.specs.Course.{Course, taken, IsThrough};
@@ -11,6 +13,7 @@ ghost use Rattle.orders.specs.Runs.{Run, turns, IsWalk, AreAllRuns};
 ghost use Rattle.walks.specs.Walks.{IsWalked, Goes, Ends};
 
 use orders::{Fault, Orders};
+pub use sample::walk_some;
 use std::alloc::{AllocError, Global};
 
 /// A machine that can be run again and again, and gathers something of each run.
@@ -66,6 +69,8 @@ pub enum Walk {
     Stopped,
     /// A run had more turns than the caller allowed.
     TooDeep,
+    /// This number of runs was drawn at random. There may be others.
+    Sample(u64),
 }
 
 /// Makes every run of the machine: at most `most` runs, each of at most `depth` turns.

@@ -1,11 +1,12 @@
-use Rattle.std.proofs.Common.{ℕ, reverse, subst, Bool}
+use Rattle.std.proofs.Common.{ℕ, List, reverse, subst, Bool}
+use Rattle.std.specs.Prelude.{MatchBool, slice_index}
 use Rattle.machine.specs.History.{last}
 use Rattle.machine.specs.FirstBytes.{first_of, files_of}
 use Rattle.machine.specs.Audit.{before}
 use Rattle.trace.specs.Walks.{spot_in}
 use Rattle.trace.specs.Links.{wrote, wrote_at}
-use Rattle.trace.specs.Settled.{Settles}
-use Rattle.trace.proofs.SettledLemmas.{settled-as, settled-none, settled-ends}
+use Rattle.trace.specs.Settled.{RestIs, Settles}
+use Rattle.trace.proofs.SettledLemmas.{settled-as, settled-none, settled-ends, settled-known}
 use Rattle.trace.proofs.LinkLemmas.{last-earlier}
 use Rattle.trace.proofs.arrival.is_last.Goals as goal
 
@@ -13,7 +14,15 @@ pub walk-init : goal.walk-init
 walk-init c =
     let xs = c.args.trace.now.entries in
     let written = λ (o : ℕ). last (first_of (reverse xs)) (before xs c.args.stand.at) (spot_in c.args.stand.page o) in
-    (settled-none c.args.bytes.now written, c.requires)
+    (settled-none c.args.bytes.now written, c.requires.stand)
+
+pub returns-in-Some : goal.returns-in-Some
+returns-in-Some c =
+    let xs = c.args.trace.now.entries in
+    let written = λ (o : ℕ). last (first_of (reverse xs)) (before xs c.args.stand.at) (spot_in c.args.stand.page o) in
+    let here = λ (o : ℕ). last (first_of (reverse xs)) (before xs c.walk.stand.at) (spot_in c.walk.stand.page o) in
+    let rest = subst (λ (k : List ℕ). let same = RestIs c.args.bytes.now c.walk.settled (slice_index k) in MatchBool c.rest_agrees.result same (same → ⊥)) c.bytes.ensures c.rest_agrees.ensures in
+    settled-known c.args.bytes.now c.walk.settled written here c.in-Some.known.now c.rest_agrees.result c.walk.invariant.0 c.in-Some.ensures rest
 
 pub returns-in-Unknown : goal.returns-in-Unknown
 returns-in-Unknown c =

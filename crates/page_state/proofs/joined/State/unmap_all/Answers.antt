@@ -1,4 +1,4 @@
-use Rattle.std.proofs.Common.{arith}
+use Rattle.std.proofs.Common.{◌≡◌, Some, None, sym, ◌∙◌, lt_of_not-le, arith}
 use Rattle.page_state.proofs.DropLemmas.{unmaps-none, unmaps-more, unmaps-all}
 use Rattle.page_state.proofs.joined.State.unmap_all.Goals as goal
 
@@ -11,4 +11,4 @@ loop-at-preserved c = unmaps-more c.args.self.now c.loop-at.self c.unmap.new.sel
 pub returns : goal.returns
 returns c =
     unmaps-all c.args.self.now c.loop-at.self c.args.task.0 c.loop-at.at c.loop-at.invariant
-    (λ v p e. let over = c.loop-at-test.false in let lt = c.is_joined.ensures.inside c.args.task.0 v p e in omega (arith, lt, over))
+    (λ v p e. lt_of_not-le (λ le. let over = c.loop-at-test.false in let none = c.bound-at-end.ensures v (omega (arith, le, over)) in let wrong : None ≡ Some p = sym none ∙ e in cc))

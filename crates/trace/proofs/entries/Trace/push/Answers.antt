@@ -24,4 +24,6 @@ invariant_of-self c =
       entries_room = search rules;
       links_room = search rules;
       few = c.self.invariant.few;
+      found_sized = search rules;
+      found_room = search rules;
     }

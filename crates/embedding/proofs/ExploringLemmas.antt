@@ -1,0 +1,47 @@
+-- What is said of a script that can't be explored.
+use Rattle.std.proofs.Common.{◌≡◌, ◌⊎◌, inl, inr, ◌<◌, ◌≤◌, ◌-◌, ℕ, List, length, Option, Some, None, codes, sym, ap, subst, ◌∙◌, arith}
+use Rattle.std.specs.Str.Lines.{lines}
+use Rattle.machine.specs.declared.limit.TheConstants.{SCRIPT_BYTES}
+use Rattle.scripts.specs.declared.fault.Cause.{Cause}
+use Rattle.scripts.specs.declared.mode.Mode.TheVariants.{Schedule}
+use Rattle.scripts.specs.Script.{IsFirstFault, IsFaultless}
+use Rattle.printer.specs.declared.options.Options.{Options}
+use Rattle.subcommands.specs.declared.fault.Fault.TheVariants as scripts_fault
+use Rattle.explore.specs.declared.fault.Fault.{Fault}
+use Rattle.explore.specs.declared.fault.Fault.TheVariants as fault
+use Rattle.explore.specs.Explores.{Explains}
+use Rattle.embedding.specs.Calls.{IsUnsound, Tells}
+use Rattle.embedding.specs.declared.status.TheConstants.{OK, BAD_SCRIPT, NO_MEMORY, DIFFERS}
+use Rattle.embedding.specs.Exploring.{IsToldOf}
+
+-- a script without a faulty line that is not too long can be run
+is_sound : (script : List ℕ) → length script ≤ SCRIPT_BYTES → IsFaultless Schedule (lines script) → IsUnsound script → ⊥
+is_sound script short well (inl long) = omega (arith, short, long)
+is_sound script short well (inr (n, cause, first)) =
+    let none = well (n - 1) (omega (arith, first.within.0, first.within.1)) in
+    let wrong : None ≡ Some cause = sym none ∙ first.faulty in cc
+
+pub told_by : (options : Options) (script text : List ℕ) (status : ℕ) (why : Fault) → length script ≤ SCRIPT_BYTES → Explains script why → IsToldOf why text status → status ≡ 1 → IsUnsound script → Tells options (codes "script") script (codes "script: ") text status
+told_by options script text status (fault.Script why) short explains (inl told) bad unsound = record { why = scripts_fault.Script why; reason = inr (short, explains); has = told.0; tells = told.1 }
+told_by options script text status (fault.Script why) short explains (inr lacks) bad unsound = absurd (omega (arith, lacks, bad))
+told_by options script text status (fault.TakesApart number) short explains told bad unsound = absurd (is_sound script short explains unsound)
+told_by options script text status fault.NoWork short explains told bad unsound = absurd (is_sound script short explains unsound)
+told_by options script text status (fault.TooManyActors actors) short explains told bad unsound = absurd (is_sound script short explains unsound)
+told_by options script text status (fault.SetupFails number said) short explains told bad unsound = absurd (is_sound script short explains unsound)
+told_by options script text status (fault.NoOutcome asked outcomes) short explains told bad unsound = absurd (is_sound script short explains unsound)
+told_by options script text status fault.Memory short explains told bad unsound = absurd (is_sound script short explains unsound)
+told_by options script text status fault.Changed short explains told bad unsound = absurd (is_sound script short explains unsound)
+told_by options script text status (fault.Unwritable error) short explains told bad unsound = absurd (is_sound script short explains unsound)
+
+-- what was said elsewhere under equal names
+pub told_as : (options : Options) (script text text' : List ℕ) (status status' : ℕ) (why : Fault) → text' ≡ text → status' ≡ status → length script ≤ SCRIPT_BYTES → Explains script why → IsToldOf why text status → status' ≡ 1 → IsUnsound script → Tells options (codes "script") script (codes "script: ") text' status'
+told_as options script text text' status status' why same equal short explains told bad unsound =
+    let T : List ℕ → Type 0 = λ (t : List ℕ). Tells options (codes "script") script (codes "script: ") t status' in
+    let S : ℕ → Type 0 = λ (n : ℕ). Tells options (codes "script") script (codes "script: ") text n in
+    subst T (sym same) (subst S (sym equal) (told_by options script text status why short explains told (sym equal ∙ bad) unsound))
+
+-- the status of a verdict is no bad script's
+pub never_bad : (n : ℕ) → (n ≡ OK) ⊎ (n ≡ NO_MEMORY) ⊎ (n ≡ DIFFERS) → n ≡ BAD_SCRIPT → ⊥
+never_bad n (inl e) bad = omega (arith, e, bad)
+never_bad n (inr (inl e)) bad = omega (arith, e, bad)
+never_bad n (inr (inr e)) bad = omega (arith, e, bad)

@@ -1,0 +1,18 @@
+use Rattle.std.proofs.Common.{◌≡◌, ◌⊎◌, inl, inr, refl, sym, subst, ◌∙◌, ap, codes, List, ℕ, arith}
+use Rattle.printer.specs.Asked.{plain_as}
+use Rattle.subcommands.specs.declared.fault.Fault.TheVariants as scripts_fault
+use Rattle.embedding.specs.declared.said.Said.{Said}
+use Rattle.embedding.specs.Calls.{placement_of, IsUnsound, Tells}
+use Rattle.embedding.proofs.ExploringLemmas.{told_as, never_bad}
+use Rattle.embedding.proofs.exploration.explore_status.Goals as goal
+use Rattle.embedding.proofs.exploration.explore_status.Goals.{in-Ok, in-Err}
+
+pub returns-then-is_too_long-clause-told : goal.returns-then-is_too_long-clause-told
+returns-then-is_too_long-clause-told c bad unsound =
+    record { why = scripts_fault.TooLong; reason = inl (c.if-is_too_long.ensures.long refl, refl); has = bad; tells = c.tell_named.ensures.whole (λ lacks. absurd (omega (arith, bad, lacks))) }
+
+pub returns-then-status-ne-DIFFERS-clause-told : goal.returns-then-status-ne-DIFFERS-clause-told
+returns-then-status-ne-DIFFERS-clause-told c = elim c.match-explore_script.branch [
+  | in-Ok w ↦ (λ bad unsound. absurd (never_bad _ w.tell_verdict-status.ensures.known (sym w.status-is ∙ bad)))
+  | in-Err w ↦ (λ bad unsound. told_as _ _ _ _ _ _ _ (ap (λ (s : Said). s.bytes.items) w.said-is) w.status-is (c.if-is_too_long.ensures.short refl) w.in-Err.ensures.why w.tell_fault-status.ensures.told bad unsound)
+]

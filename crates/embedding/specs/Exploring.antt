@@ -1,0 +1,52 @@
+-- What a caller asks of an exploration, and what it is told.
+use Rattle.std.specs.Prelude.{◌≡◌, ◌⊎◌, ℕ, Bool, ◌==◌, List, Option, Some, None, codes, if◌then◌else◌}
+use Rattle.std.specs.Io.KnownBytes.{Appends}
+use Rattle.subcommands.specs.declared.fault.Fault.TheVariants as scripts_fault
+use Rattle.subcommands.specs.Told.{AllTold}
+use Rattle.explorer.specs.declared.choice.Choice.{Choice}
+use Rattle.explorer.specs.declared.choice.Choice.TheVariants.{Any, DeviceFirst}
+use Rattle.explore.specs.declared.asked.Asked.{Asked}
+use Rattle.explore.specs.declared.asked.Sample.{Sample}
+use Rattle.explore.specs.declared.fault.Fault.{Fault}
+use Rattle.explore.specs.declared.fault.Fault.TheVariants as fault
+use Rattle.explore.specs.declared.report.Verdict.{Verdict}
+use Rattle.explore.specs.declared.report.Verdict.TheVariants as verdict
+use Rattle.embedding.specs.declared.exploration.ExploreAsked.{ExploreAsked}
+use Rattle.embedding.specs.declared.status.TheConstants.{NO_MEMORY}
+use Rattle.embedding.specs.Calls.{placement_of, status_of_line}
+
+-- the sample, if one is asked for
+abbrev pub sample_of : ExploreAsked → Option Sample
+sample_of asked = if asked.sample == 0 then None else Some (record { orders = asked.sample; seed = asked.seed })
+
+-- the outcome that is shown, if one is asked for
+abbrev pub show_of : ExploreAsked → Option ℕ
+show_of asked = if asked.show == 0 then None else Some asked.show
+
+-- every order is run, or those with calls of the device first
+abbrev pub choice_of : Bool → Choice
+choice_of every = if every then Any else DeviceFirst
+
+-- the program's options. (Excludes an option that is ignored, and one that is taken for another.)
+abbrev pub exploration_of : ExploreAsked → Asked
+exploration_of asked = record { orders = asked.orders; sample = sample_of asked; turns = asked.turns; choice = choice_of asked.every; placement = placement_of asked.as_linux; show = show_of asked }
+
+-- all orders were run, or all of the sample
+abbrev pub IsWhole : Verdict → Type 0
+IsWhole (verdict.All outcomes) = Unit {0}
+IsWhole (verdict.Sample outcomes) = Unit {0}
+IsWhole (verdict.MoreOrders orders) = ⊥
+IsWhole (verdict.MoreTurns turns) = ⊥
+
+-- the text has all lines about a faulty line, and this is its status, if there was memory for them. What is said of another fault is only tested.
+abbrev pub IsToldOf : Fault → List ℕ → ℕ → Type 0
+IsToldOf (fault.Script why) text status =
+    ((status ≡ status_of_line why) × AllTold (Appends (Some (codes "script: ")) (Some text)) (scripts_fault.Script why)) ⊎ (status ≡ NO_MEMORY)
+IsToldOf (fault.TakesApart number) text status = Unit {0}
+IsToldOf fault.NoWork text status = Unit {0}
+IsToldOf (fault.TooManyActors actors) text status = Unit {0}
+IsToldOf (fault.SetupFails number said) text status = Unit {0}
+IsToldOf (fault.NoOutcome asked outcomes) text status = Unit {0}
+IsToldOf fault.Memory text status = Unit {0}
+IsToldOf fault.Changed text status = Unit {0}
+IsToldOf (fault.Unwritable error) text status = Unit {0}

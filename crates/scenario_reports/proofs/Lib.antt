@@ -1,0 +1,2 @@
+mod ConfirmingLemmas
+mod PlainLemmas

@@ -1,0 +1,117 @@
+//! The machine that a scenario asks for, and lines of its script.
+
+ghost use Rattle.std.specs.Prelude.{◌≡◌, ◌++◌, None, IfOk, OnOk};
+ghost use Rattle.std.specs.List.{flat_map};
+ghost use Rattle.std.specs.String.{string_bytes};
+ghost use Rattle.scenario_words.specs.Header.{machine_of};
+ghost use Rattle.scenario_reports.specs.Faulty.{file_line, one_line, IsNoLine};
+
+use machine::config::{Config, File, FileList};
+use machine::text::Text;
+use scenario_words::header::{DeviceCall, FileSize, Header};
+use scenario_words::names::Names;
+use schedules::Schedule;
+use scripts::{Mode, Script, ScriptFault, read};
+use std::alloc::{AllocError, Global};
+
+/// Entries that a history has, at most.
+const MOST_ENTRIES: u32 = 1_048_576;
+
+/// The files, by the names that a script has for them.
+fn files_of(alloc: Global, header: &Header, names: &Names) -> Result<FileList, AllocError> {
+    let mut files = FileList::new(alloc);
+    for file in &header.files {
+        let mut name = String::new(alloc);
+        names.add_name(&mut name, file.name.as_str())?;
+        files.push(File {
+            name: Text::new(name),
+            pages: file.pages,
+        })?;
+    }
+    Ok(files)
+}
+
+/// The configuration: a line ends only when it is answered, and the history has the most room that it can have.
+pub fn config_of(alloc: Global, header: &Header, names: &Names) -> Result<Config, AllocError> {
+    Ok(Config {
+        frames: header.frames,
+        swap: header.swap,
+        files: files_of(alloc, header, names)?,
+        watermarks: header.watermarks.unwrap_or_default(),
+        trace: MOST_ENTRIES,
+        turns: u32::MAX,
+        recursive: header.recursive,
+        placement: header.placement,
+    })
+}
+
+/// Which calls of this kind fail.
+pub fn failing_of(
+    alloc: Global,
+    header: &Header,
+    call: DeviceCall,
+) -> Result<Vec<u64>, AllocError> {
+    let mut numbers = Vec::new(alloc);
+    for failing in &header.failing {
+        if failing.call == call {
+            numbers.push(u64::from(failing.number))?;
+        }
+    }
+    Ok(numbers)
+}
+
+/// Adds the line of a file.
+fn add_file(text: &mut String, names: &Names, file: &FileSize) -> Result<(), AllocError>
+    ensures { OnOk result (string_bytes text.new ≡ string_bytes text.old ++ file_line names.now file.now) }
+{
+    text.push_str("file ")?;
+    names.add_name(text, file.name.as_str())?;
+    writeln!(text, " {}", file.pages)
+}
+
+/// Adds the lines of all files.
+fn add_files(text: &mut String, header: &Header, names: &Names) -> Result<(), AllocError>
+    ensures { OnOk result (string_bytes text.new ≡ string_bytes text.old ++ flat_map (file_line names.now) header.now.files.items) }
+{
+    for file in &header.files {
+        add_file(text, names, file)?;
+    }
+    Ok(())
+}
+
+/// A script of one line, with the files of the scenario.
+fn script_text(
+    alloc: Global,
+    header: &Header,
+    names: &Names,
+    line: &str,
+) -> Result<String, AllocError>
+    ensures { IfOk result (λ text. string_bytes text ≡ one_line (machine_of header.now) names.now line.now) }
+{
+    let mut text = String::new(alloc);
+    writeln!(text, "frames {}", header.frames)?;
+    writeln!(text, "swap {}", header.swap)?;
+    add_files(&mut text, header, names)?;
+    writeln!(text, "{line}")?;
+    Ok(text)
+}
+
+/// What a line of the script asks for. `None` if it is not a line that a script can have.
+pub fn schedule_of(
+    alloc: Global,
+    header: &Header,
+    names: &Names,
+    line: &str,
+) -> Result<Option<Schedule>, AllocError>
+    ensures { IfOk result (λ schedule. schedule ≡ None → IsNoLine (machine_of header.now) names.now line.now) }
+{
+    let text = script_text(alloc, header, names, line)?;
+    match read(alloc, text.as_bytes(), Mode::Schedule) {
+        Ok(script) => {
+            let Script { schedule, .. } = script;
+            Ok(Some(schedule))
+        }
+        Err(ScriptFault::Memory) => Err(AllocError),
+        Err(ScriptFault::At { .. }) => Ok(None),
+    }
+}
