@@ -38,6 +38,13 @@ IsWhole (verdict.Sample outcomes) = Unit {0}
 IsWhole (verdict.MoreOrders orders) = ⊥
 IsWhole (verdict.MoreTurns turns) = ⊥
 
+-- not all orders were run
+abbrev pub IsPart : Verdict → Type 0
+IsPart (verdict.All outcomes) = ⊥
+IsPart (verdict.Sample outcomes) = ⊥
+IsPart (verdict.MoreOrders orders) = Unit {0}
+IsPart (verdict.MoreTurns turns) = Unit {0}
+
 -- the text has all lines about a faulty line, and this is its status, if there was memory for them. What is said of another fault is only tested.
 abbrev pub IsToldOf : Fault → List ℕ → ℕ → Type 0
 IsToldOf (fault.Script why) text status =

@@ -8,7 +8,7 @@ ghost use Rattle.printer.specs.Asked.{plain_as};
 ghost use Rattle.explore.specs.Explores.{Explores, Explains};
 ghost use Rattle.embedding.specs.declared.status.TheConstants.{OK, BAD_SCRIPT, NO_MEMORY, DIFFERS, BAD_OPTIONS};
 ghost use Rattle.embedding.specs.Calls.{placement_of, IsUnsound, Tells};
-ghost use Rattle.embedding.specs.Exploring.{sample_of, show_of, choice_of, exploration_of, IsWhole, IsToldOf};
+ghost use Rattle.embedding.specs.Exploring.{sample_of, show_of, choice_of, exploration_of, IsWhole, IsPart, IsToldOf};
 
 use crate::said::Said;
 use crate::status::{BAD_OPTIONS, BAD_SCRIPT, DIFFERS, NO_MEMORY, OK};
@@ -89,6 +89,7 @@ fn exploration_of(asked: ExploreAsked) -> Asked
 fn tell_verdict(verdict: Verdict, said: &mut Said) -> u8
     ensures known { (result ≡ OK) ⊎ (result ≡ NO_MEMORY) ⊎ (result ≡ DIFFERS) }
     ensures whole { result ≡ OK → IsWhole verdict }
+    ensures partial { result ≡ DIFFERS → IsPart verdict }
     ensures silent { result ≡ OK → said.new.bytes.items ≡ said.old.bytes.items }
 {
     let written = match verdict {
@@ -111,7 +112,7 @@ fn tell_verdict(verdict: Verdict, said: &mut Said) -> u8
 
 /// The status of a fault that is not of one line alone.
 fn status_of(fault: &Fault) -> u8
-    ensures known { (result ≡ BAD_SCRIPT) ⊎ (result ≡ NO_MEMORY) ⊎ (result ≡ DIFFERS) ⊎ (result ≡ BAD_OPTIONS) }
+    ensures known { (result ≡ BAD_SCRIPT) ⊎ (result ≡ NO_MEMORY) ⊎ (result ≡ BAD_OPTIONS) }
 {
     match fault {
         Fault::TakesApart(_)
@@ -120,16 +121,15 @@ fn status_of(fault: &Fault) -> u8
         | Fault::SetupFails(_, _)
         | Fault::Script(_) => BAD_SCRIPT,
         Fault::NoOutcome(_, _) => BAD_OPTIONS,
-        Fault::Changed => DIFFERS,
-        // A write fails here if the bytes can't be kept.
-        Fault::Memory | Fault::Unwritable(_) => NO_MEMORY,
+        // No run was seen to change. A write fails here if the bytes can't be kept.
+        Fault::Memory | Fault::Changed | Fault::Unwritable(_) => NO_MEMORY,
     }
 }
 
 /// Adds the line that says why a script was not explored, and returns the status.
 fn tell_fault(fault: Fault, said: &mut Said) -> u8
     requires unsaid { said.old.bytes.items ≡ [] }
-    ensures known { (result ≡ BAD_SCRIPT) ⊎ (result ≡ NO_MEMORY) ⊎ (result ≡ DIFFERS) ⊎ (result ≡ BAD_OPTIONS) }
+    ensures known { (result ≡ BAD_SCRIPT) ⊎ (result ≡ NO_MEMORY) ⊎ (result ≡ BAD_OPTIONS) }
     ensures told { IsToldOf fault said.new.bytes.items result }
 {
     match fault {
@@ -154,6 +154,7 @@ pub fn explore_status(
     requires unsaid { said.old.bytes.items ≡ [] }
     ensures known { (result ≤ NO_MEMORY) ⊎ (result ≡ DIFFERS) ⊎ (result ≡ BAD_OPTIONS) }
     ensures explored { result ≡ OK → (verdict : Verdict) × IsWhole verdict × Explores (exploration_of asked) script.now verdict (Some []) (Some printed.new.items) }
+    ensures partial { result ≡ DIFFERS → (verdict : Verdict) × IsPart verdict × Explores (exploration_of asked) script.now verdict (Some []) (Some printed.new.items) }
     ensures silent { result ≡ OK → said.new.bytes.items ≡ [] }
     ensures faultless { (result ≡ DIFFERS) ⊎ (result ≡ BAD_OPTIONS) → IsFaultless Schedule (lines script.now) }
     ensures unprinted { result ≢ OK → result ≢ DIFFERS → printed.new.items ≡ [] }

@@ -20,11 +20,11 @@ fn read<R: Files + AllocGlobal>(rt: &R, name: &str, end: &str) -> io::Result<Vec
     Ok(bytes)
 }
 
-/// What an exploration prints, and its number of outcomes, or none if it fails.
+/// What an exploration or a sample prints, and its number of outcomes, or none if it fails.
 fn explored(alloc: Global, asked: Asked, script: &[u8]) -> Option<(Vec<u8>, usize)> {
     let mut out = Vec::new(alloc);
     match explore_script(alloc, asked, script, &mut out) {
-        Ok(Verdict::All(outcomes)) => Some((out, outcomes)),
+        Ok(Verdict::All(outcomes) | Verdict::Sample(outcomes)) => Some((out, outcomes)),
         _ => None,
     }
 }
@@ -82,19 +82,6 @@ fn compare<R: Files + AllocGlobal, W: Write>(
     Ok(outcomes)
 }
 
-/// What a sample prints, and its number of outcomes, or none if it fails.
-fn sampled(alloc: Global, script: &[u8], seed: u64) -> Option<(Vec<u8>, usize)> {
-    let asked = Asked {
-        sample: Some(Sample { orders: 200, seed }),
-        ..Asked::default()
-    };
-    let mut out = Vec::new(alloc);
-    match explore_script(alloc, asked, script, &mut out) {
-        Ok(Verdict::Sample(outcomes)) => Some((out, outcomes)),
-        _ => None,
-    }
-}
-
 /// Draws a sample twice with the same seed. A line says if the two differ, or if a sample has no outcome or too many.
 fn check_sample<W: Write>(
     alloc: Global,
@@ -103,9 +90,16 @@ fn check_sample<W: Write>(
     outcomes: usize,
     out: &mut W,
 ) -> io::Result<()> {
+    let asked = Asked {
+        sample: Some(Sample {
+            orders: 200,
+            seed: 1,
+        }),
+        ..Asked::default()
+    };
     let (Some((first, seen)), Some((second, _))) = (
-        sampled(alloc, script, 1),
-        sampled(alloc, script, 1),
+        explored(alloc, asked, script),
+        explored(alloc, asked, script),
     ) else {
         return Err(ErrorKind::Other.into());
     };
