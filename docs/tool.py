@@ -42,9 +42,9 @@ SPECIFICATIONS = """
     turns/specs/Tickets.antt driver/specs/Hands.antt marks/specs/Logs.antt
     scripts/specs/Words.antt scripts/specs/Forms.antt scripts/specs/Meaning.antt scripts/specs/Header.antt scripts/specs/Context.antt
     scripts/specs/Faults.antt scripts/specs/Script.antt scripts/specs/Work.antt scripts/specs/FaultTexts.antt
-    printer/specs/Asked.antt printer/specs/Amounts.antt printer/specs/Prints.antt subcommands/specs/Scripts.antt subcommands/specs/Told.antt
+    printer/specs/Asked.antt printer/specs/Amounts.antt printer/specs/Prints.antt subcommands/specs/Scripts.antt script_faults/specs/Told.antt
     live/specs/Exchanges.antt live/specs/Passes.antt live/specs/Works.antt live/specs/Shares.antt live/specs/Matching.antt live/specs/Reports.antt live/specs/Crews.antt live/specs/Told.antt live/specs/OneRun.antt live/specs/Looks.antt
-    shown_groups/specs/Shown.antt subcommands/specs/Threads.antt subcommands/specs/Actors.antt
+    shown_groups/specs/Shown.antt thread_runs/specs/Threads.antt thread_runs/specs/Actors.antt
     expectations/specs/Expected.antt
     book/specs/Looks.antt charts/specs/Watched.antt charts/specs/Phased.antt charts/specs/Listed.antt printer/specs/Paths.antt subcommands/specs/Charted.antt
     embedding/specs/Buffers.antt embedding/specs/Calls.antt
@@ -866,7 +866,7 @@ def write_counts(option=None):
 
 
 # The crates whose strings a user reads.
-TELLING = ("charts", "command_line", "embedding", "expectations", "explain", "machine", "memcgrun", "printer", "scenarios", "scripts", "subcommands")
+TELLING = ("charts", "command_line", "embedding", "expectations", "explain", "machine", "memcgrun", "printer", "scenarios", "script_faults", "scripts", "subcommands", "thread_runs")
 
 
 def messages():

@@ -26,10 +26,8 @@ use std::io;
 use std::io::Write;
 use std::sync::Wait;
 use std::thread::Threads;
-use subcommands::{
-    Amounts, Options, Placement, read_and_check, run_script, run_script_on_threads, status_of,
-    status_of_run,
-};
+use subcommands::{Amounts, Options, Placement, read_and_check, run_script, status_of};
+use thread_runs::{run_script_on_threads, status_of_run};
 
 /// What follows the answers of a run with an audit, and of one on threads.
 const VERDICT: &[u8] = b"audit ok\n";

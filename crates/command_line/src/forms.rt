@@ -65,20 +65,25 @@ const AS_LINUX_ROW: Row = Row {
     help: "Put pages that are read in on the generation lists as Linux does",
 };
 
-/// The option as it is for subcommands that print no answers.
 const EXPLAIN_ROW: Row = Row {
     name: EXPLAIN,
     value: Value::Absent,
     beside: Beside::Any,
-    help: "Print a second line that says what is wrong with a faulty line",
+    help: "Print why each line failed and each task was killed, on standard error",
 };
 
-/// The option as it is for subcommands that say why a line was refused.
-const EXPLAIN_ANSWERS: Row = Row {
-    name: EXPLAIN,
+const LABELS_ROW: Row = Row {
+    name: LABELS,
     value: Value::Absent,
     beside: Beside::Any,
-    help: "Print why each line failed and each task was killed, on standard error",
+    help: "Print the number and the text of its line before each answer",
+};
+
+const LINES_ROW: Row = Row {
+    name: LINES,
+    value: Value::Absent,
+    beside: Beside::Any,
+    help: "Print the number of its line before each answer",
 };
 
 const SUMMARY_ROW: Row = Row {
@@ -110,25 +115,15 @@ const SCHEDULE: &[Row] = &[
         beside: Beside::Any,
         help: "After the last answer, print the result of auditing the run",
     },
-    EXPLAIN_ANSWERS,
+    EXPLAIN_ROW,
     Row {
         name: HUMAN,
         value: Value::Absent,
         beside: Beside::Any,
         help: "Print amounts of memory in K, M, G or T, as 23.4M",
     },
-    Row {
-        name: LABELS,
-        value: Value::Absent,
-        beside: Beside::Any,
-        help: "Print the number and the text of its line before each answer",
-    },
-    Row {
-        name: LINES,
-        value: Value::Absent,
-        beside: Beside::Any,
-        help: "Print the number of its line before each answer",
-    },
+    LABELS_ROW,
+    LINES_ROW,
     Row {
         name: PAGES,
         value: Value::Absent,
@@ -166,6 +161,8 @@ const SCHEDULE: &[Row] = &[
 const RUN: &[Row] = &[
     AS_LINUX_ROW,
     EXPLAIN_ROW,
+    LABELS_ROW,
+    LINES_ROW,
     Row {
         name: SHOW,
         value: Value::MaybeTexts("PATH"),
@@ -183,7 +180,12 @@ const CHARTS: &[Row] = &[
         beside: Beside::Any,
         help: "Print a CSV table instead of the picture",
     },
-    EXPLAIN_ROW,
+    Row {
+        name: EXPLAIN,
+        value: Value::Absent,
+        beside: Beside::Any,
+        help: "Print a second line that says what is wrong with a faulty line",
+    },
     Row {
         name: STRICT,
         value: Value::Absent,
@@ -195,7 +197,7 @@ const CHARTS: &[Row] = &[
 
 const CHECK: &[Row] = &[
     AS_LINUX_ROW,
-    EXPLAIN_ANSWERS,
+    EXPLAIN_ROW,
     Row {
         name: LABELS,
         value: Value::Absent,

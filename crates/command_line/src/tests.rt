@@ -188,18 +188,21 @@ fn answers_are_asked_for_as_they_come(rt: HostRuntime) -> Result<(), Fail> {
 #[test]
 fn a_run_is_asked_for(rt: HostRuntime) -> Result<(), Fail> {
     let rows = [
-        ("memcgrun run a", false),
-        ("memcgrun run -- a", false),
-        ("memcgrun run --explain a", true),
-        ("memcgrun run a --explain", true),
+        ("memcgrun run a", false, false, false),
+        ("memcgrun run -- a", false, false, false),
+        ("memcgrun run --explain a", true, false, false),
+        ("memcgrun run a --explain --labels", true, true, false),
+        ("memcgrun run --lines a", false, false, true),
     ];
-    for (line, explain) in rows {
+    for (line, explain, labels, lines) in rows {
         let words = words_of(rt.alloc(), line)?;
         let Ok(Asked::Script(request, _)) = read_words(rt.alloc(), &words) else {
             return Err("refused".into());
         };
         let options = Options {
             explain,
+            labels,
+            lines,
             ..Options::default()
         };
         assert_eq!(rt; request.subcommand, Subcommand::Run, "{line}");

@@ -6,7 +6,7 @@ use Rattle.scripts.specs.declared.fault.Cause.{Cause}
 use Rattle.scripts.specs.declared.mode.Mode.TheVariants.{Schedule}
 use Rattle.scripts.specs.Script.{IsFirstFault, IsFaultless}
 use Rattle.printer.specs.declared.options.Options.{Options}
-use Rattle.subcommands.specs.declared.fault.Fault.TheVariants as scripts_fault
+use Rattle.script_faults.specs.declared.fault.Fault.TheVariants as scripts_fault
 use Rattle.explore.specs.declared.fault.Fault.{Fault}
 use Rattle.explore.specs.declared.fault.Fault.TheVariants as fault
 use Rattle.explore.specs.Explores.{Explains}

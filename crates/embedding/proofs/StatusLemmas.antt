@@ -2,8 +2,8 @@
 use Rattle.std.proofs.Common.{◌≡◌, ◌⊎◌, inl, inr, ℕ, List, sym, ◌∙◌, arith}
 use Rattle.scripts.specs.declared.fault.ScriptFault.TheVariants as at
 use Rattle.printer.specs.declared.options.Options.{Options}
-use Rattle.subcommands.specs.declared.fault.Fault.{Fault}
-use Rattle.subcommands.specs.declared.fault.Fault.TheVariants as fault
+use Rattle.script_faults.specs.declared.fault.Fault.{Fault}
+use Rattle.script_faults.specs.declared.fault.Fault.TheVariants as fault
 use Rattle.embedding.specs.Calls.{status_by, IsUnsound, WhyNot}
 
 -- a bad script's fault is why it can't be run

@@ -12,9 +12,9 @@ use Rattle.scripts.specs.declared.mode.Mode.TheVariants.{Schedule}
 use Rattle.scripts.specs.Script.{IsFirstFault}
 use Rattle.printer.specs.declared.options.Options.{Options}
 use Rattle.printer.specs.Asked.{plain}
-use Rattle.subcommands.specs.declared.fault.Fault.{Fault}
-use Rattle.subcommands.specs.declared.fault.Fault.TheVariants as fault
-use Rattle.subcommands.specs.Told.{Explains, AllTold, StartsReport}
+use Rattle.script_faults.specs.declared.fault.Fault.{Fault}
+use Rattle.script_faults.specs.declared.fault.Fault.TheVariants as fault
+use Rattle.script_faults.specs.Told.{Explains, AllTold, StartsReport}
 use Rattle.embedding.specs.declared.Asked.{Asked}
 use Rattle.embedding.specs.declared.status.TheConstants.{BAD_SCRIPT, NO_MEMORY, REFUSED}
 

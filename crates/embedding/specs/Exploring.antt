@@ -1,8 +1,8 @@
 -- What a caller asks of an exploration, and what it is told.
 use Rattle.std.specs.Prelude.{◌≡◌, ◌⊎◌, ℕ, Bool, ◌==◌, List, Option, Some, None, codes, if◌then◌else◌}
 use Rattle.std.specs.Io.KnownBytes.{Appends}
-use Rattle.subcommands.specs.declared.fault.Fault.TheVariants as scripts_fault
-use Rattle.subcommands.specs.Told.{AllTold}
+use Rattle.script_faults.specs.declared.fault.Fault.TheVariants as scripts_fault
+use Rattle.script_faults.specs.Told.{AllTold}
 use Rattle.explorer.specs.declared.choice.Choice.{Choice}
 use Rattle.explorer.specs.declared.choice.Choice.TheVariants.{Any, DeviceFirst}
 use Rattle.explore.specs.declared.asked.Asked.{Asked}

@@ -21,7 +21,7 @@ ghost use Rattle.expectations.specs.Expected.{expected_of};
 ghost use Rattle.subcommands.specs.Scripts.{PrintsScript, PrintsPart, EndsScript};
 ghost use Rattle.subcommands.specs.Charted.{ListsScript};
 ghost use Rattle.std.specs.Io.KnownBytes.{Appends};
-ghost use Rattle.subcommands.specs.Told.{IsRefused, AllTold, StartsReport};
+ghost use Rattle.script_faults.specs.Told.{IsRefused, AllTold, StartsReport};
 ghost use Rattle.explore.specs.declared.report.Verdict.{Verdict};
 ghost use Rattle.explore.specs.Explores.{Explores};
 ghost use Rattle.embedding.specs.Exploring.{exploration_of, IsWhole, IsPart};

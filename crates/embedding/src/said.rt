@@ -7,7 +7,7 @@ ghost use Rattle.std.specs.IoError.{error_kind};
 ghost use Rattle.std.specs.declared.io.ErrorKind.TheVariants.{OutOfMemory};
 ghost use Rattle.embedding.specs.declared.status.TheConstants.{NO_MEMORY};
 ghost use Rattle.embedding.specs.Calls.{status_by};
-ghost use Rattle.subcommands.specs.Told.{AllTold, StartsReport};
+ghost use Rattle.script_faults.specs.Told.{AllTold, StartsReport};
 
 use crate::status::{BAD_SCRIPT, NO_MEMORY, REFUSED};
 use scripts::ScriptFault;

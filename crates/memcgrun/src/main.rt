@@ -3,19 +3,19 @@
 //! scripts print with what they expect.
 #![tactic(auto)]
 
+mod checking;
 mod exploring;
 
 ghost use Rattle.std.specs.Prelude.{◌≡◌, ◌≤◌};
 
+use checking::check_all;
 use command_line::{
     Asked, ChartForm, Exploration, Purpose, Refused, Request, Scenario, Subcommand, plain_name,
     read_words, tell_no_memory, tell_no_script, tell_no_setting, tell_no_text, tell_no_values,
     tell_scenario, tell_set_and_varied, text_about,
 };
 use exploring::explore_bytes;
-use simulation::{
-    Prints, Values, expand, is_setting, looks_like_scenario, read_values, simulate, vary,
-};
+use simulation::{Values, expand, is_setting, looks_like_scenario, read_values, simulate, vary};
 use std::alloc::Global;
 use std::fs::{File, OpenFile};
 use std::io::{BufWriter, ErrorKind, IsTerminal, LineWriter, Read, Write};
@@ -24,10 +24,8 @@ use std::rt::{Env, Files};
 use std::sync::Wait;
 use std::thread::Threads;
 use std::{env, io, str};
-use subcommands::{
-    Drawing, Options, Shows, Summary, chart, read_and_check, read_script, run_script,
-    run_script_showing, status_of, status_of_run,
-};
+use subcommands::{Drawing, Options, chart, read_script, run_script, status_of};
+use thread_runs::{Shows, run_script_told, status_of_run};
 
 const FAILED: u8 = 1;
 
@@ -76,8 +74,7 @@ fn drawing_of(form: ChartForm) -> Drawing {
     }
 }
 
-/// Runs the script on threads, and shows the groups of these paths at the end. An empty path means all groups. If the
-/// options ask for a summary, it follows on standard error.
+/// Runs the script on threads, and shows the groups of these paths at the end. An empty path means all groups.
 fn run_on_threads<R: Threads + Wait + Sync + AllocGlobal, O: Write, E: Write>(
     rt: &R,
     options: Options,
@@ -94,21 +91,7 @@ fn run_on_threads<R: Threads + Wait + Sync + AllocGlobal, O: Write, E: Write>(
     } else {
         Shows::These(shown)
     };
-    let mut summary = Summary::new();
-    let ran = run_script_showing(
-        rt,
-        rt.alloc(),
-        options,
-        shows,
-        name,
-        script,
-        &mut summary,
-        out,
-    );
-    if options.summary && ran.is_ok() {
-        // The status does not depend on it.
-        let _ = summary.write(err);
-    }
+    let ran = run_script_told(rt, rt.alloc(), options, shows, name, script, out, err);
     status_of_run(ran, err)
 }
 
@@ -222,72 +205,6 @@ fn run_into<R: AllocGlobal + Threads + Wait + Sync, I: Read, O: Write, E: Write>
     run(rt, request, shown, script, out, err)
 }
 
-/// Checks the scripts and scenarios of these files, one after the other, whatever the results of those before.
-fn check_all<R: Files + AllocGlobal, I: Read, O: Write, E: Write>(
-    rt: &R,
-    options: Options,
-    files: &[&str],
-    input: &mut I,
-    out: &mut O,
-    err: &mut E,
-) -> u8
-    ensures success_or_failure { result ≤ 1 }
-{
-    let mut all_met = true;
-    for file in files {
-        let status = check_one(rt, options, file, input, out, err);
-        all_met = all_met && status == 0;
-    }
-    if all_met { 0 } else { FAILED }
-}
-
-/// Checks the script or scenario of a file, or of standard input if the file is `-`.
-fn check_one<R: Files + AllocGlobal, I: Read, O: Write, E: Write>(
-    rt: &R,
-    options: Options,
-    file: &str,
-    input: &mut I,
-    out: &mut O,
-    err: &mut E,
-) -> u8
-    ensures success_or_failure { result ≤ 1 }
-{
-    let alloc = rt.alloc();
-    if file == STANDARD_INPUT {
-        return check_text(alloc, options, shown_name(file), input, out, err);
-    }
-    match open(rt, file, err) {
-        Some(mut text) => check_text(alloc, options, file, &mut text, out, err),
-        None => FAILED,
-    }
-}
-
-/// Checks a text, which is a script or a scenario.
-fn check_text<I: Read, O: Write, E: Write>(
-    alloc: Global,
-    options: Options,
-    name: &str,
-    text: &mut I,
-    out: &mut O,
-    err: &mut E,
-) -> u8
-    ensures success_or_failure { result ≤ 1 }
-{
-    let bytes = match read_script(alloc, text) {
-        Ok(bytes) => bytes,
-        Err(fault) => {
-            // The status reports the failure even if its line can't be written.
-            let _ = write!(err, "{name}: ");
-            return status_of(Err(fault), err);
-        }
-    };
-    if is_scenario(&bytes) {
-        return check_scenario(alloc, name, &bytes, out, err);
-    }
-    let mut script = bytes.as_slice();
-    read_and_check(alloc, options, name, &mut script, out, err)
-}
-
 /// Explores the script of a file, or of standard input if the file is `-`.
 fn serve_exploration<R: Files + AllocGlobal, I: Read, O: Write, E: Write>(
     rt: &R,
@@ -338,28 +255,6 @@ fn is_scenario(bytes: &[u8]) -> bool {
         Ok(text) => looks_like_scenario(text),
         Err(_) => false,
     }
-}
-
-/// Checks a scenario: it is run, and what is not as expected is printed.
-fn check_scenario<O: Write, E: Write>(
-    alloc: Global,
-    name: &str,
-    bytes: &[u8],
-    out: &mut O,
-    err: &mut E,
-) -> u8
-    ensures success_or_failure { result ≤ 1 }
-{
-    let asked = simulation::Asked {
-        name,
-        settings: &[],
-        go_on: false,
-        prints: Prints::Unmet,
-        every: 1,
-        groups: &[],
-        depth: None,
-    };
-    simulate(alloc, &asked, bytes, out, err)
 }
 
 /// What is done with a scenario that is to be read.

@@ -27,7 +27,8 @@ use std::sync::Wait;
 use std::thread::Threads;
 use std::time::{Clock, Duration};
 use std::{env, io};
-use subcommands::{Fault, Verdict, read_script, run_over, status_of, status_of_run};
+use subcommands::{Fault, read_script, status_of};
+use thread_runs::{Verdict, run_over, status_of_run};
 
 fn out_of_memory() -> Fault {
     Fault::Unreadable(ErrorKind::OutOfMemory.into())

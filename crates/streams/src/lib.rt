@@ -16,3 +16,5 @@ mod printing;
 mod shown;
 #[cfg(test)]
 mod threads;
+#[cfg(test)]
+mod told;

@@ -1,4 +1,4 @@
-//! A caller of `subcommands::run_over`: a run over a device of its own, which brings other bytes than it was given.
+//! A caller of `thread_runs::run_over`: a run over a device of its own, which brings other bytes than it was given.
 
 ghost use Rattle.std.specs.List.Sorted.{IsStrictlyIncreasing};
 ghost use Rattle.scripts.specs.Work.{numbers_of, shown_rows};
@@ -12,7 +12,7 @@ use std::marker::Brand;
 use std::sync::Wait;
 use std::test::Fail;
 use std::thread::Threads;
-use subcommands::{run_over, status_of_run};
+use thread_runs::{run_over, status_of_run};
 
 /// Adds one to each byte that is read.
 #[derive(Drop)]

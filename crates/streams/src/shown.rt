@@ -1,10 +1,11 @@
-//! A caller of `subcommands`: what a run on threads shows of groups at its end.
+//! A caller of `thread_runs`: what a run on threads shows of groups at its end.
 
 use std::alloc::{AllocError, Global};
 use std::sync::Wait;
 use std::test::Fail;
 use std::thread::Threads;
-use subcommands::{Fault, Options, Shows, Summary, Verdict, run_script_showing};
+use subcommands::{Fault, Options};
+use thread_runs::{Notes, Shows, Verdict, run_script_showing};
 
 /// What a run of the script prints to `out`, its verdict, and what it did.
 fn shown<R: Threads + Wait + Sync>(
@@ -12,9 +13,9 @@ fn shown<R: Threads + Wait + Sync>(
     alloc: Global,
     shows: Shows<'_>,
     script: &str,
-) -> Result<(Vec<u8>, Verdict, Summary), Fault> {
+) -> Result<(Vec<u8>, Verdict, Notes), Fault> {
     let mut out = Vec::new(alloc);
-    let mut summary = Summary::new();
+    let mut notes = Notes::new(alloc, false);
     let verdict = run_script_showing(
         rt,
         alloc,
@@ -22,10 +23,10 @@ fn shown<R: Threads + Wait + Sync>(
         shows,
         "",
         script.as_bytes(),
-        &mut summary,
+        &mut notes,
         &mut out,
     )?;
-    Ok((out, verdict, summary))
+    Ok((out, verdict, notes))
 }
 
 /// A group with two groups below it, a group alone, and one that the shell removes while the tasks run.
@@ -94,7 +95,7 @@ fn events_are_those_of_the_end(rt: HostRuntime) -> Result<(), Fail> {
         "group /p\ngroup /p/a\ngroup /p/b\nset /p/a memory.max 8192\ntask 1 /p/a\ntask 2 /p/a\n1 write 0 0 5\n1 write 1 0 5\ncat /p/a memory.current\ngo\n2 write 0 0 6\n2 read 0 0\n";
     let paths = ["/p/a", "/p", "/p/b"];
     let shows = Shows::These(&paths);
-    let (out, verdict, summary) = shown(&rt, rt.alloc(), shows, script).map_err(|_| "a fault")?;
+    let (out, verdict, notes) = shown(&rt, rt.alloc(), shows, script).map_err(|_| "a fault")?;
     // A third page is over the limit. Task 1 has the most pages, and its two are freed.
     let mut wanted = String::from_str(rt.alloc(), "8192\nkilled 1\n2 6\n")?;
     let events = "low 0\nhigh 0\nmax 1\noom 1\noom_kill 1\noom_group_kill 0\n";
@@ -105,7 +106,7 @@ fn events_are_those_of_the_end(rt: HostRuntime) -> Result<(), Fail> {
     assert_eq!(rt; out.as_slice(), wanted.as_bytes());
     assert_eq!(rt; verdict, Verdict::Fine);
     let mut said = Vec::new(rt.alloc());
-    summary.write(&mut said)?;
+    notes.summary().write(&mut said)?;
     assert_eq!(rt;
         said.as_slice(),
         b"kills: 1\nrefused: 0\npages read in: 0\npages written out: 0\npages dropped: 0\n".as_slice()
@@ -117,12 +118,12 @@ fn events_are_those_of_the_end(rt: HostRuntime) -> Result<(), Fail> {
 fn a_summary_counts_what_is_refused_and_moved(rt: HostRuntime) -> Result<(), Fail> {
     let script =
         "swap 2\ntrace 11\ngroup /a\ntask 1 /a\n1 write 0 0 5\nset /a memory.reclaim 4096\n1 read 0 0\nrmdir /a\ngo\n1 read 0 0\n1 read 0 0\n1 read 0 0\n";
-    let (_, verdict, summary) = shown(&rt, rt.alloc(), Shows::These(&[]), script).map_err(
+    let (_, verdict, notes) = shown(&rt, rt.alloc(), Shows::These(&[]), script).map_err(
         |_| "a fault",
     )?;
     assert_eq!(rt; verdict, Verdict::Fine);
     let mut said = Vec::new(rt.alloc());
-    summary.write(&mut said)?;
+    notes.summary().write(&mut said)?;
     // 7 entries: a group, a task, a write, a page out and its end, a page in and its end. The rmdir is refused, and
     // each read takes one of the four entries that are left.
     assert_eq!(rt;

@@ -1,10 +1,10 @@
-//! A caller of `subcommands`: scripts on threads.
+//! A caller of `thread_runs`: scripts on threads.
 
 use std::alloc::{AllocError, Global};
 use std::sync::Wait;
 use std::test::Fail;
 use std::thread::Threads;
-use subcommands::run;
+use thread_runs::run;
 
 /// What a run of the script prints to `out` and to `err`, and its status.
 fn printed<R: Threads + Wait + Sync>(

@@ -10,15 +10,14 @@ ghost use Rattle.scripts.specs.declared.fault.Cause.{Cause};
 ghost use Rattle.scripts.specs.declared.mode.Mode.TheVariants.{Schedule};
 ghost use Rattle.scripts.specs.Script.{IsFirstFault};
 ghost use Rattle.subcommands.specs.Charted.{charted_in, ListsRun, ListsScript, RefusesNothing};
-ghost use Rattle.subcommands.specs.Told.{Explains, IsOfScript, IsRunFault};
+ghost use Rattle.script_faults.specs.Told.{Explains, IsOfScript, IsRunFault};
 
-use crate::device::new_device;
-use crate::fault::{Fault, Wanted};
-use crate::{faulty, run_script, unwritten};
+use crate::run_script;
 use block_store::{BlockDevice, MemDevice};
 use charts::{phases, table, watch};
 use driver::{Config, Steps};
 use printer::{Options, paths_of, write_bytes};
+use script_faults::{Fault, Wanted, faulty, new_device, unwritten};
 use script_pictures::picture;
 use scripts::{Mode, Script, one_answer};
 use std::alloc::{AllocError, Global};

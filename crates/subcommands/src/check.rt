@@ -7,18 +7,20 @@ ghost use Rattle.scripts.specs.Script.{IsFaultless};
 ghost use Rattle.expectations.specs.Expected.{expected_of};
 ghost use Rattle.printer.specs.Asked.{marks_lines, speaks};
 ghost use Rattle.subcommands.specs.Scripts.{as_checked, PrintsScript};
-ghost use Rattle.subcommands.specs.Told.{Explains};
+ghost use Rattle.script_faults.specs.Told.{Explains};
 
-use crate::fault::Fault;
-use crate::{FAILED, read_script, run_script, status_of};
+use crate::run_script;
 use expectations::{Difference, Text, compare, looks_expected};
 use explain::Words;
 use printer::{Options, write_bytes};
+use script_faults::{Fault, read_script, status_of};
 use scripts::ScriptFault;
 use scripts::lines::{as_text, first_line};
 use std::alloc::{AllocError, Global};
 use std::io::{ErrorKind, Read, Write};
 use std::{io, str};
+
+const FAILED: u8 = 1;
 
 /// The result of a check.
 #[derive(Clone, Copy, PartialEq, Eq)]

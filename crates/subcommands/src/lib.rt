@@ -3,10 +3,6 @@
 
 mod charting;
 mod check;
-mod crew;
-mod device;
-mod fault;
-mod threads;
 
 ghost use Rattle.std.specs.Prelude.{◌≡◌, ◌⊎◌, ℕ, ◌≤◌, [], true, false, string_bytes, IsErr, IfSome, IfOk, IfErr, OnOk, OnErr};
 ghost use Rattle.std.specs.Io.KnownBytes.{Keeps};
@@ -21,62 +17,20 @@ ghost use Rattle.printer.specs.declared.options.Options.{Options as Asked_by};
 ghost use Rattle.printer.specs.Asked.{marks_lines, plain, speaks};
 ghost use Rattle.printer.specs.Prints.{PrintsRun, PrintsStart, EndsRun, is_end};
 ghost use Rattle.subcommands.specs.Scripts.{PrintsScript, PrintsPart, EndsScript};
-ghost use Rattle.subcommands.specs.Told.{placed_text, BeginsSo, Places, IsUnread, Explains, ExplainsIn, IsOfScript, IsRefused, StartsReport, TellsWhy, IsRunFault, IsScheduleFault};
+ghost use Rattle.script_faults.specs.Told.{IsUnread, Explains, IsOfScript, IsRefused, TellsWhy, IsScheduleFault};
 
 use block_store::{BlockDevice, MemDevice};
 pub use charting::{Drawing, chart};
 pub use check::{Checked, check_script, read_and_check};
-use device::new_device;
 pub use driver::Placement;
 use driver::{Config, Stop};
-pub use fault::{Fault, Wanted};
 pub use printer::{Amounts, Options};
 use printer::{ERASE, Ended, Source, Stopped, print_run};
-use scripts::{Mode, Script, ScriptFault, one_answer};
-pub use shown_groups::{Shows, Summary};
-use std::alloc::{AllocError, Global};
-use std::io;
+pub use script_faults::{Fault, SCRIPT_BYTES, Wanted, read_script, status_of};
+use script_faults::{faulty, new_device, unwritten};
+use scripts::{Mode, Script, one_answer};
+use std::alloc::Global;
 use std::io::{ErrorKind, Read, Write};
-pub use threads::{
-    MOST_ACTORS, Verdict, run, run_over, run_script_on_threads, run_script_showing, status_of_run,
-};
-
-/// The most bytes that a script may have. With this limit, a reader that never ends is refused, and takes no more
-/// memory than this.
-pub use machine::limit::SCRIPT_BYTES;
-
-const FAILED: u8 = 1;
-
-/// All bytes of a script. The error says that the reader failed, that there was no memory for what it gave, or
-/// that it gave more than [`SCRIPT_BYTES`].
-pub fn read_script<R: Read>(alloc: Global, script: &mut R) -> Result<Vec<u8>, Fault>
-    ensures bytes { IfOk result (λ bytes. IfSome (R.remaining script.old) (λ all. bytes.items ≡ all)) }
-    ensures why { IfErr result (λ why. IfSome (R.remaining script.old) (λ all. IsUnread all why)) }
-{
-    let mut bytes = Vec::new(alloc);
-    // Asks for one more byte, so that a script that is too long is never cut off and run.
-    match script.take(SCRIPT_BYTES + 1).read_to_end(&mut bytes) {
-        Err(error) => Err(Fault::Unreadable(error)),
-        Ok(read) => {
-            if read as u64 > SCRIPT_BYTES {
-                return Err(Fault::TooLong);
-            }
-            Ok(bytes)
-        }
-    }
-}
-
-/// Why an answer could not be written: its bytes need memory too.
-pub(crate) fn unwritten(wanted: Wanted, error: io::Error) -> Fault
-    ensures of_run { IsRunFault result }
-    ensures of_schedule { (options : Asked_by) → IsScheduleFault options result }
-    ensures unrefused { ¬ IsRefused result }
-{
-    match error.kind() {
-        ErrorKind::OutOfMemory => Fault::Memory(wanted),
-        _ => Fault::Unwritable(error),
-    }
-}
 
 /// Why a run ended before all was answered, or why not all of it was written.
 fn fault_of(wanted: Wanted, stopped: Stopped) -> Fault
@@ -160,73 +114,6 @@ fn run_steps<O: Write, E: Write>(
     run_on(alloc, options, config, &mut device, source, out, err)
 }
 
-/// The line of a fault with the name of the script's file, without an end of line.
-fn place(alloc: Global, file: &str, fault: ScriptFault) -> Result<String, AllocError>
-    ensures { IfOk result (λ told. string_bytes told ≡ placed_text file.now fault) }
-{
-    match fault {
-        ScriptFault::At { line, cause } => format!(in alloc; "{file}:{line}: {cause}"),
-        ScriptFault::Memory => String::from_str(alloc, "out of memory"),
-    }
-}
-
-/// Adds a second line, if there is more to say.
-fn add_more(
-    alloc: Global,
-    bytes: &[u8],
-    fault: ScriptFault,
-    told: &mut String,
-) -> Result<(), AllocError>
-    ensures { OnOk result (BeginsSo (string_bytes told.old) (string_bytes told.new)) }
-{
-    match explain::explain(alloc, bytes, fault)? {
-        None => Ok(()),
-        Some(more) => {
-            told.push('\n')?;
-            told.push_str(more.as_str())
-        }
-    }
-}
-
-/// All that a fault reports if the file's name is asked for.
-fn placed(
-    alloc: Global,
-    options: Options,
-    file: &str,
-    bytes: &[u8],
-    fault: ScriptFault,
-) -> Result<String, AllocError>
-    ensures { IfOk result (λ told. Places file.now fault (string_bytes told)) }
-{
-    let mut told = place(alloc, file, fault)?;
-    if options.explain {
-        add_more(alloc, bytes, fault, &mut told)?;
-    }
-    Ok(told)
-}
-
-/// The fault of a script. If there is no memory to say more about it, its line is reported alone.
-pub(crate) fn faulty(
-    alloc: Global,
-    options: Options,
-    file: &str,
-    bytes: &[u8],
-    mode: Mode,
-    fault: ScriptFault,
-) -> Fault
-    requires { NamesFirstFault mode fault (lines bytes.now) }
-    ensures explains { ExplainsIn mode options file.now bytes.now result }
-    ensures unrefused { ¬ IsRefused result }
-{
-    if !options.places_faults() {
-        return Fault::Script(fault);
-    }
-    match placed(alloc, options, file, bytes, fault) {
-        Ok(told) => Fault::Placed(fault, told),
-        Err(_) => Fault::Script(fault),
-    }
-}
-
 /// Shows that a script is being read, if progress is to be shown.
 fn show_reading<E: Write>(options: Options, err: &mut E)
     ensures quiet { speaks options ≡ false → E.contents err.new ≡ E.contents err.old }
@@ -293,19 +180,6 @@ pub fn run_script<O: Write, E: Write>(
             Err(faulty(alloc, options, file, script, Mode::Schedule, fault))
         }
     }
-}
-
-/// The exit status of a run: 0, or 1 if there is a fault. Then `err` gets the lines that say why, as
-/// [`Fault::report`] writes them. The status reports the failure even if they can't be written.
-pub fn status_of<E: Write>(ran: Result<(), Fault>, err: &mut E) -> u8
-    ensures well { OnOk ran ((result ≡ 0) × (E.contents err.new ≡ E.contents err.old)) }
-    ensures failed { IfErr ran (λ why. (result ≡ 1) × StartsReport why (E.contents err.old) (E.contents err.new)) }
-{
-    let Err(fault) = ran else {
-        return 0;
-    };
-    let _ = fault.report(err);
-    FAILED
 }
 
 /// Reads and runs a script with no option, and so without the name of a file.

@@ -1,6 +1,6 @@
 use Rattle.std.proofs.Common.{◌≡◌, ◌⊎◌, inl, inr, refl, sym, subst, ◌∙◌, ap, codes, List, ℕ, arith}
 use Rattle.printer.specs.Asked.{plain_as}
-use Rattle.subcommands.specs.declared.fault.Fault.TheVariants as scripts_fault
+use Rattle.script_faults.specs.declared.fault.Fault.TheVariants as scripts_fault
 use Rattle.embedding.specs.declared.said.Said.{Said}
 use Rattle.embedding.specs.Calls.{placement_of, IsUnsound, Tells}
 use Rattle.embedding.proofs.ExploringLemmas.{told_as, never_bad}

@@ -1,0 +1,177 @@
+//! What `memcgrun check` does.
+
+ghost use Rattle.std.specs.Prelude.{◌≤◌};
+
+use crate::{FAILED, STANDARD_INPUT, is_scenario, open, shown_name};
+use simulation::{Prints, simulate};
+use std::alloc::Global;
+use std::io::{Read, Write};
+use std::rt::Files;
+use std::thread;
+use std::thread::{Threads, available_parallelism};
+use subcommands::{Options, read_and_check, read_script, status_of};
+
+/// How many files are checked at a time if the number of processors is unknown.
+const SOME_PROCESSORS: usize = 4;
+
+/// What the check of a file wrote, and its status.
+#[derive(Drop)]
+struct Checked {
+    out: Vec<u8>,
+    err: Vec<u8>,
+    status: u8,
+}
+
+/// Checks the script or scenario of a file, or of standard input if the file is `-`.
+fn check_one<R: Files + AllocGlobal, I: Read, O: Write, E: Write>(
+    rt: &R,
+    options: Options,
+    file: &str,
+    input: &mut I,
+    out: &mut O,
+    err: &mut E,
+) -> u8
+    ensures success_or_failure { result ≤ 1 }
+{
+    let alloc = rt.alloc();
+    if file == STANDARD_INPUT {
+        return check_text(alloc, options, shown_name(file), input, out, err);
+    }
+    match open(rt, file, err) {
+        Some(mut text) => check_text(alloc, options, file, &mut text, out, err),
+        None => FAILED,
+    }
+}
+
+/// Checks a text, which is a script or a scenario.
+fn check_text<I: Read, O: Write, E: Write>(
+    alloc: Global,
+    options: Options,
+    name: &str,
+    text: &mut I,
+    out: &mut O,
+    err: &mut E,
+) -> u8
+    ensures success_or_failure { result ≤ 1 }
+{
+    let bytes = match read_script(alloc, text) {
+        Ok(bytes) => bytes,
+        Err(fault) => {
+            // The status reports the failure even if its line can't be written.
+            let _ = write!(err, "{name}: ");
+            return status_of(Err(fault), err);
+        }
+    };
+    if is_scenario(&bytes) {
+        return check_scenario(alloc, name, &bytes, out, err);
+    }
+    let mut script = bytes.as_slice();
+    read_and_check(alloc, options, name, &mut script, out, err)
+}
+
+/// Checks a scenario: it is run, and what is not as expected is printed.
+fn check_scenario<O: Write, E: Write>(
+    alloc: Global,
+    name: &str,
+    bytes: &[u8],
+    out: &mut O,
+    err: &mut E,
+) -> u8
+    ensures success_or_failure { result ≤ 1 }
+{
+    let asked = simulation::Asked {
+        name,
+        settings: &[],
+        go_on: false,
+        prints: Prints::Unmet,
+        every: 1,
+        groups: &[],
+        depth: None,
+    };
+    simulate(alloc, &asked, bytes, out, err)
+}
+
+/// Checks a file, and keeps what that writes.
+fn check_apart<R: Files + AllocGlobal>(rt: &R, options: Options, file: &str) -> Checked
+    ensures success_or_failure { result.status ≤ 1 }
+{
+    let alloc = rt.alloc();
+    let mut out = Vec::new(alloc);
+    let mut err = Vec::new(alloc);
+    let mut nothing: &[u8] = &[];
+    let status = check_one(rt, options, file, &mut nothing, &mut out, &mut err);
+    Checked { out, err, status }
+}
+
+/// Checks files one after another. The result says whether each check succeeded.
+fn check_in_turn<R: Files + AllocGlobal, I: Read, O: Write, E: Write>(
+    rt: &R,
+    options: Options,
+    files: &[&str],
+    input: &mut I,
+    out: &mut O,
+    err: &mut E,
+) -> bool {
+    let mut all_met = true;
+    for file in files {
+        let status = check_one(rt, options, file, input, out, err);
+        all_met = all_met && status == 0;
+    }
+    all_met
+}
+
+/// Checks files at the same time, each in a thread of its own, and writes what the checks wrote in the order of the files.
+/// The result says whether each check succeeded. It is `None` if memory for that ran out, and then nothing is written.
+fn check_together<R: Files + AllocGlobal + Threads + Sync, O: Write, E: Write>(
+    rt: &R,
+    options: Options,
+    files: &[&str],
+    out: &mut O,
+    err: &mut E,
+) -> Option<bool> {
+    let check = |at: usize| check_apart(rt, options, files[at]);
+    let checks = thread::map_indices(rt, rt.alloc(), files.len(), &check).ok()?;
+    let mut all_met = true;
+    for checked in checks.iter() {
+        let written = match out.write_all(&checked.out) {
+            Ok(()) => err.write_all(&checked.err),
+            Err(error) => Err(error),
+        };
+        all_met = all_met && checked.status == 0 && written.is_ok();
+    }
+    Some(all_met)
+}
+
+/// Checks the scripts and scenarios of these files, whatever the results of the others: as many at a time as there are
+/// processors. What is written comes in the order of the files.
+pub fn check_all<R: Files + AllocGlobal + Threads + Sync, I: Read, O: Write, E: Write>(
+    rt: &R,
+    options: Options,
+    files: &[&str],
+    input: &mut I,
+    out: &mut O,
+    err: &mut E,
+) -> u8
+    ensures success_or_failure { result ≤ 1 }
+{
+    let at_a_time = match available_parallelism(rt) {
+        Ok(count) => count.get(),
+        Err(_) => SOME_PROCESSORS,
+    };
+    let mut all_met = true;
+    for some in files.chunks(at_a_time) {
+        // There is one standard input.
+        let reads_input = some.iter().any(|file| *file == STANDARD_INPUT);
+        let met = if reads_input || some.len() == 1 {
+            None
+        } else {
+            check_together(rt, options, some, out, err)
+        };
+        let met = match met {
+            Some(met) => met,
+            None => check_in_turn(rt, options, some, input, out, err),
+        };
+        all_met = all_met && met;
+    }
+    if all_met { 0 } else { FAILED }
+}

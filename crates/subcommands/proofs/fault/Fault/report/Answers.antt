@@ -1,5 +1,0 @@
-use Rattle.subcommands.proofs.ToldLemmas.{nothing_told}
-use Rattle.subcommands.proofs.fault.Fault.report.Goals as goal
-
-pub returns-then-is_silent-clause-start : goal.returns-then-is_silent-clause-start
-returns-then-is_silent-clause-start g c = nothing_told c.args.self.now _

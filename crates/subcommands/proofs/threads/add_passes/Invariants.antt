@@ -1,6 +1,0 @@
-use Rattle.std.proofs.Common.{◌≡◌, ◌++◌}
-use Rattle.subcommands.specs.Rounds.{passes_in}
-use Rattle.subcommands.proofs.threads.add_passes.Given as goal
-
-abbrev pub invariant-loop-worker : goal.invariant-loop-worker
-invariant-loop-worker g l = l.passes.items ≡ l.fn.passes.items ++ passes_in l.yielded

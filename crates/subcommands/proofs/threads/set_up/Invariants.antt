@@ -1,8 +1,0 @@
-use Rattle.subcommands.specs.Crews.{Counts}
-use Rattle.subcommands.specs.Rounds.{SetsUp}
-use Rattle.subcommands.proofs.threads.set_up.Given as goal
-
-abbrev pub invariant-loop-actor : goal.invariant-loop-actor
-invariant-loop-actor g l =
-    SetsUp g.L.Opened.opening.watermarks l.yielded l.fn.crew.workers.items l.crew.workers.items (g.O.Write.contents l.fn.out) (g.O.Write.contents l.out)
-    × Counts l.fn.roll.given l.fn.crew.workers.items l.roll.given l.crew.workers.items

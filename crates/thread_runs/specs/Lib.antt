@@ -1,0 +1,4 @@
+pub mod Actors
+pub mod Threads
+pub mod Crews
+pub mod Rounds
