@@ -1,5 +1,5 @@
 -- The rows of a script's work are apart, so nothing is lost if calls of the device come first.
-use Rattle.std.proofs.Common.{◌≡◌, inl, inr, ℕ, ◌<◌, ◌≤◌, Bool, true, false, ltb, List, [], ◌∷◌, ◌++◌, length, map, Option, Some, None, refl, sym, ap, ◌∙◌, subst, arith}
+use Rattle.std.proofs.Common.{◌≡◌, ℕ, ◌<◌, ◌≤◌, Bool, true, false, ltb, List, [], ◌∷◌, ◌++◌, map, Option, Some, None, refl, sym, ap, ◌∙◌, subst, arith}
 use Rattle.std.specs.Prelude.{fold, slice_get, slice_index_or, if◌then◌else◌}
 use Rattle.std.specs.Option.{option_map}
 use Rattle.std.specs.List.{filter_map}
@@ -16,7 +16,7 @@ use Rattle.machine.specs.declared.command.Step.TheVariants.{Begin}
 use Rattle.machine.proofs.Values.{some_inj}
 use Rattle.driver.specs.Schedule.{number_of as number_in}
 use Rattle.scripts.specs.declared.meaning.Item.{Item}
-use Rattle.scripts.specs.Work.{before_go, number_of, commands_by, with_actor, actors_of, work_of, numbers_of}
+use Rattle.scripts.specs.Work.{before_go, number_of, commands_by, with_actor, actors_of, numbers_of}
 use Rattle.scripts.proofs.WorkLemmas.{work_is_whole}
 use Rattle.explorer.specs.declared.choice.Choice.{Choice}
 use Rattle.explorer.specs.declared.choice.Choice.TheVariants.{Any, DeviceFirst}
@@ -74,12 +74,12 @@ same_numbers (actor.Task n) = refl
 -- ---- the rows
 
 -- what a list has at a place, if its map has something there
-record Mapped {A B : Type 0} (f : A → B) (xs : List A) (k : ℕ) (y : B) : Type 0 where
-  x : A
-  there : slice_get xs k ≡ Some x
-  is : f x ≡ y
+pub record Mapped {A B : Type 0} (f : A → B) (xs : List A) (k : ℕ) (y : B) : Type 0 where
+  pub x : A
+  pub there : slice_get xs k ≡ Some x
+  pub is : f x ≡ y
 
-mapped : {A B : Type 0} (f : A → B) (xs : List A) (k : ℕ) (y : B) → slice_get (map f xs) k ≡ Some y → Mapped f xs k y
+pub mapped : {A B : Type 0} (f : A → B) (xs : List A) (k : ℕ) (y : B) → slice_get (map f xs) k ≡ Some y → Mapped f xs k y
 mapped f xs k y e = by (slice_get xs k) refl (sym (slice_get-map f xs k) ∙ e)
   where
     by : (o : Option _) → slice_get xs k ≡ o → option_map f o ≡ Some y → Mapped f xs k y

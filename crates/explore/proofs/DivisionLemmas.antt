@@ -1,9 +1,10 @@
 -- The parts of a script, by what its lines say.
-use Rattle.std.proofs.Common.{◌≡◌, ℕ, zero, suc, ◌+◌, ◌<◌, ◌≤◌, Bool, true, false, cond, ltb, List, [], ◌∷◌, ◌++◌, length, take, drop, map, Option, Some, None, refl, sym, ap, ◌∙◌, subst, arith}
+use Rattle.std.proofs.Common.{◌≡◌, ℕ, suc, ◌+◌, ◌≤◌, Bool, true, false, cond, ltb, List, [], ◌∷◌, ◌++◌, length, take, drop, map, Some, None, refl, sym, ap, ◌∙◌, arith}
 use Rattle.std.specs.Prelude.{◌==◌, ◌||◌, not, fold, position, if◌then◌else◌}
 use Rattle.std.specs.List.{filter_map, cons_option, flat_map, list_any, prefix_len, before_first, after_first, position_or_len}
 use Rattle.std.proofs.lemmas.Bool.{ltb-false}
 use Rattle.std.proofs.lemmas.Bool.Decides.{nat_tests}
+use Rattle.std.proofs.lemmas.List.{length-map}
 use Rattle.std.proofs.lemmas.List.Sums.{fold-append}
 use Rattle.machine.specs.declared.command.Actor.{Actor}
 use Rattle.machine.specs.declared.command.Command.{Command}
@@ -12,10 +13,13 @@ use Rattle.machine.specs.declared.command.Step.TheVariants.{Begin}
 use Rattle.scripts.specs.declared.meaning.Item.{Item}
 use Rattle.scripts.specs.declared.meaning.Item.TheVariants as item
 use Rattle.scripts.specs.Script.{steps_of, steps_of_item}
-use Rattle.scripts.specs.Work.{is_go, before_go, behind_go, does, commands_by, command_by, number_of, with_actor}
+use Rattle.scripts.specs.Work.{is_go, before_go, behind_go, does, commands_by, number_of, with_actor}
+use Rattle.explore.specs.declared.fault.Fault.{Fault}
+use Rattle.explore.specs.declared.fault.Fault.TheVariants as fault
 use Rattle.explore.specs.declared.said.Said.{Said}
 use Rattle.explore.specs.declared.script.Sorted.{Sorted}
-use Rattle.explore.specs.Division.{work_in, looks_in, takes_apart, worker_for, by_worker, worked_in, left_by, actors_in, begun_by, row_in, shown_row, IsDivided}
+use Rattle.explore.specs.Division.{work_in, looks_in, takes_apart, worker_for, by_worker, worked_in, left_by, actors_in, row_in, shown_row, IsDivided}
+use Rattle.explore.specs.Faults.{IsUnsorted, IsUndivided}
 use Rattle.explore.specs.Said.{said_of_item}
 use Rattle.explore.specs.Sorting.{goes, steps_asked, is_apart, left, worker, begun, actors_asked, AreSorted}
 use Rattle.explorer.specs.declared.parts.Parts.{Parts}
@@ -39,13 +43,17 @@ none_if p xs false e h = none_by p xs e
 pub none : {X : Type 0} (p : X → Bool) (xs : List X) → position p xs ≡ None → list_any p xs ≡ false
 none p xs h = none_if p xs (ltb (position_or_len p xs) (length xs)) refl h
 
+pub no_items : {X : Type 0} (xs : List X) → length xs ≡ 0 → xs ≡ []
+no_items [] e = refl
+no_items (x ∷ xs) e = absurd (omega (arith, e))
+
 -- ---- line by line
 
 goes-said : (i : Item) → goes (said_of_item i) ≡ is_go i
 goes-said item.EndsSetup = refl
 goes-said _ = refl
 
-steps-said : (i : Item) → steps_asked (said_of_item i) ≡ steps_of_item i
+pub steps-said : (i : Item) → steps_asked (said_of_item i) ≡ steps_of_item i
 steps-said item.EndsSetup = refl
 steps-said _ = refl
 
@@ -83,7 +91,7 @@ after (i ∷ is) = rw (goes-said i) (after_if i is (is_go i) (after is))
 
 -- ---- the parts
 
-steps : (is : List Item) → flat_map steps_asked (map said_of_item is) ≡ steps_of is
+pub steps : (is : List Item) → flat_map steps_asked (map said_of_item is) ≡ steps_of is
 steps [] = refl
 steps (i ∷ is) = rw (steps-said i) (ap (λ (l : List Step). steps_of_item i ++ l) (steps is))
 
@@ -149,3 +157,41 @@ divided is lines sorted parts e h s r l =
           ∙ ap (map (row_in is)) (actors is lines (before_first goes lines) (before_first goes (after_first goes lines)) first work);
       looks = ap (λ (v : _). v.items) l ∙ h.looks ∙ ap (flat_map steps_asked) looks ∙ steps (looks_in is);
     }
+
+-- ---- no parts
+
+apart_len : (is : List Item) → position_or_len is_apart (map said_of_item is) ≡ position_or_len takes_apart is
+apart_len [] = refl
+apart_len (i ∷ is) = rw (apart-said i) (ap (λ (n : ℕ). cond (not (takes_apart i)) (1 + n) 0) (apart_len is))
+
+apart_place : (is : List Item) → position is_apart (map said_of_item is) ≡ position takes_apart is
+apart_place is =
+    ap (λ (n : ℕ). cond (ltb n (length (map said_of_item is))) (Some n) None) (apart_len is)
+    ∙ ap (λ (m : ℕ). cond (ltb (position_or_len takes_apart is) m) (Some (position_or_len takes_apart is)) None) (length-map is said_of_item)
+
+module _ (is : List Item) (setup work : List Said) (first : setup ≡ map said_of_item (before_go is)) (second : work ≡ map said_of_item (work_in is)) where
+  all_whole : list_any is_apart work ≡ false → list_any takes_apart (work_in is) ≡ false
+  all_whole h = sym (ap (list_any is_apart) second ∙ whole (work_in is)) ∙ h
+
+  all_actors : actors_asked setup work ≡ actors_in is
+  all_actors = actors is setup setup work first second
+
+  no_parts : (why : Fault) → IsUnsorted setup work (length setup + 2) why → IsUndivided is why
+  no_parts (fault.TakesApart number) (place, h, n) = record {
+    place = place;
+    first = sym (apart_place (work_in is)) ∙ ap (position is_apart) (sym second) ∙ h;
+    number_is = n ∙ ap (λ (l : List Said). length l + 2 + place) first ∙ ap (λ (m : ℕ). m + 2 + place) (length-map (before_go is) said_of_item);
+  }
+  no_parts fault.NoWork (h, none) = record { whole = all_whole h; none = sym all_actors ∙ none }
+  no_parts (fault.TooManyActors count) (h, n, more) = record { whole = all_whole h; counts = n ∙ ap (λ (l : List Actor). length l) all_actors; more = more }
+  no_parts fault.Memory h = tt
+  no_parts (fault.Script why) h = absurd h
+  no_parts (fault.SetupFails number said) h = absurd h
+  no_parts (fault.NoOutcome number outcomes) h = absurd h
+  no_parts fault.Changed h = absurd h
+  no_parts (fault.Unwritable error) h = absurd h
+
+pub undivided : (is : List Item) (lines : List Said) (why : Fault) → lines ≡ map said_of_item is → IsUnsorted (before_first goes lines) (before_first goes (after_first goes lines)) (length (before_first goes lines) + 2) why → IsUndivided is why
+undivided is lines why e h =
+    let behind : after_first goes lines ≡ map said_of_item (behind_go is) = ap (after_first goes) e ∙ after is in
+    no_parts is (before_first goes lines) (before_first goes (after_first goes lines)) (ap (before_first goes) e ∙ before is) (ap (before_first goes) behind ∙ before (behind_go is)) why h

@@ -2,6 +2,8 @@ pub mod ApartLemmas
 pub mod GoLemmas
 pub mod SaidLemmas
 pub mod RowLemmas
+pub mod FaultLemmas
 pub mod DivisionLemmas
+pub mod TrialLemmas
 pub mod ListingLemmas
 pub mod ExploresLemmas

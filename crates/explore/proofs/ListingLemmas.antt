@@ -1,14 +1,14 @@
 -- The list of outcomes.
-use Rattle.std.proofs.Common.{◌≡◌, ℕ, zero, suc, ◌+◌, ◌<◌, ◌≤◌, Bool, true, false, cond, ltb, List, [], ◌∷◌, ◌++◌, length, take, drop, get_or, map, Option, Some, None, refl, sym, ap, ◌∙◌, append_assoc, append-nil, arith}
+use Rattle.std.proofs.Common.{◌≡◌, ℕ, zero, suc, ◌+◌, ◌<◌, ◌≤◌, Bool, true, false, cond, ltb, List, [], ◌∷◌, ◌++◌, length, take, get_or, Some, None, refl, sym, ap, ◌∙◌, append_assoc, append-nil, arith}
 use Rattle.std.specs.Prelude.{not, nat_lt, position, slice_get, fold, if◌then◌else◌}
 use Rattle.std.specs.List.{position_or_len, insert}
-use Rattle.std.proofs.lemmas.Bool.{ltb-true, ltb-false}
+use Rattle.std.proofs.lemmas.Bool.{ltb-false}
 use Rattle.std.proofs.Math.Seq.{take-suc}
 use Rattle.std.proofs.lemmas.List.{length-take-le, length-map}
 use Rattle.machine.proofs.Values.{some_inj}
 use Rattle.explorer.specs.Tally.{Counted}
 use Rattle.explore.specs.declared.listing.Listed.{Listed}
-use Rattle.explore.specs.Listing.{with_ranked, row_text, rows_text}
+use Rattle.explore.specs.Listing.{with_ranked, ranked, row_text, rows_text}
 use Rattle.explore.specs.Listed.{shown, shown_rows, is_fewer}
 
 -- ---- the rows of a table
@@ -99,3 +99,27 @@ more_text rows k d start before after lt e f =
 
 pub many_rows : (rows : List Listed) → length (shown_rows rows) ≡ length rows
 many_rows rows = length-map rows shown
+
+-- ---- how many rows there are
+
+len_if : (first row : Counted) (rows : List Counted) (b : Bool) → length (with_ranked rows row) ≡ suc (length rows) → length (if b then row ∷ first ∷ rows else first ∷ with_ranked rows row) ≡ suc (suc (length rows))
+len_if first row rows true e = refl
+len_if first row rows false e = ap suc e
+
+len_more : (rows : List Counted) (row : Counted) → length (with_ranked rows row) ≡ suc (length rows)
+len_more [] row = refl
+len_more (first ∷ rows) row = len_if first row rows (nat_lt first.orders row.orders) (len_more rows row)
+
+len_fold : (before rows : List Counted) → length (fold with_ranked before rows) ≡ length before + length rows
+len_fold before [] = omega arith
+len_fold before (row ∷ rows) = (let more = len_more before row in len_fold (with_ranked before row) rows ∙ omega (arith, more))
+
+pub shown_len : (rows : List Listed) (table : List Counted) → shown_rows rows ≡ table → length rows ≡ length table
+shown_len rows table e = sym (length-map rows shown) ∙ ap (λ (l : List Counted). length l) e
+
+pub ranked_len : (rows found : List Listed) → shown_rows rows ≡ ranked (shown_rows found) → length rows ≡ length found
+ranked_len rows found e =
+    let all : length rows ≡ length (ranked (shown_rows found)) = shown_len rows (ranked (shown_rows found)) e in
+    let each : length (ranked (shown_rows found)) ≡ 0 + length (shown_rows found) = len_fold [] (shown_rows found) in
+    let same : length (shown_rows found) ≡ length found = length-map found shown in
+    omega (arith, all, each, same)

@@ -1,7 +1,8 @@
 -- What is found of a script's orders, and printed.
-use Rattle.std.specs.Prelude.{◌≡◌, ℕ, List, Option, None, Some, length}
+use Rattle.std.specs.Prelude.{◌≡◌, ◌⊎◌, ℕ, ◌<◌, List, Option, None, Some, length, string_bytes}
 use Rattle.std.specs.Io.KnownBytes.{Appends}
 use Rattle.std.specs.Str.Lines.{lines}
+use Rattle.scripts.specs.declared.meaning.Item.{Item}
 use Rattle.scripts.specs.declared.mode.Mode.TheVariants.{Schedule}
 use Rattle.scripts.specs.Script.{items_of, IsFaultless, NamesFirstFault}
 use Rattle.walks.specs.declared.Walk.{Walk}
@@ -20,6 +21,7 @@ use Rattle.explore.specs.declared.report.Verdict.{Verdict}
 use Rattle.explore.specs.declared.report.Verdict.TheVariants as verdict
 use Rattle.explore.specs.Division.{ArePartsOf}
 use Rattle.explore.specs.Listing.{list_text, orders_in}
+use Rattle.explore.specs.Reasons.{TakesApartAt, HasNoWork, HasCrowd, RefusesAt}
 
 -- how it ended, by how the walk through the orders ended, and by how many outcomes there are. (Excludes that all is said where it stopped.)
 abbrev pub verdict_of : Asked → Walk → ℕ → Verdict
@@ -53,27 +55,27 @@ pub record Explores (asked : Asked) (script : List ℕ) (verdict : Verdict) (old
   pub verdict_is : verdict ≡ verdict_of asked walk (length found.rows)
   pub lists : asked.show ≡ None → Appends old new (list_for asked parts walk found)
 
--- it is not of the script's lines
-abbrev pub IsOfRun : Fault → Type 0
-IsOfRun (fault.Script why) = ⊥
-IsOfRun (fault.TakesApart number) = Unit {0}
-IsOfRun fault.NoWork = Unit {0}
-IsOfRun (fault.TooManyActors actors) = Unit {0}
-IsOfRun (fault.SetupFails number said) = Unit {0}
-IsOfRun (fault.NoOutcome asked outcomes) = Unit {0}
-IsOfRun fault.Memory = Unit {0}
-IsOfRun fault.Changed = Unit {0}
-IsOfRun (fault.Unwritable error) = Unit {0}
+-- the outcome with this number was asked for, and fewer were found. (Excludes the number of an outcome that was found, and another number of outcomes.)
+pub record LacksOutcome (asked : Asked) (is : List Item) (number outcomes : ℕ) : Type 0 where
+  pub parts : Parts
+  pub parts_are : ArePartsOf asked.placement is parts
+  pub walk : Walk
+  pub found : Findings
+  pub is_found : IsFound asked parts walk found
+  pub shows : asked.show ≡ Some number
+  pub counts : outcomes ≡ length found.rows
+  pub lacks : (number ≡ 0) ⊎ (outcomes < number)
 
--- this is why the script was not explored: its first faulty line with its first cause, or want of memory for what it says; or, if it has no faulty line, another reason. (Excludes
--- a fault of a script that has none, and another line's number.)
-abbrev pub Explains : List ℕ → Fault → Type 0
-Explains script (fault.Script why) = NamesFirstFault Schedule why (lines script)
-Explains script (fault.TakesApart number) = IsFaultless Schedule (lines script)
-Explains script fault.NoWork = IsFaultless Schedule (lines script)
-Explains script (fault.TooManyActors actors) = IsFaultless Schedule (lines script)
-Explains script (fault.SetupFails number said) = IsFaultless Schedule (lines script)
-Explains script (fault.NoOutcome asked outcomes) = IsFaultless Schedule (lines script)
-Explains script fault.Memory = IsFaultless Schedule (lines script)
-Explains script fault.Changed = IsFaultless Schedule (lines script)
-Explains script (fault.Unwritable error) = IsFaultless Schedule (lines script)
+-- this is why the script was not explored: its first faulty line with its first cause, or out of memory for what it says. If no line is faulty, it is a line of the work that
+-- takes a command apart, no actor or too many, a refused line of the setup, or an outcome that does not exist. Memory can always run out, and a write can fail. (Excludes a reason
+-- that does not hold of the script, another line's number, and another number of actors or outcomes.)
+abbrev pub Explains : Asked → List ℕ → Fault → Type 0
+Explains asked script (fault.Script why) = NamesFirstFault Schedule why (lines script)
+Explains asked script (fault.TakesApart number) = IsFaultless Schedule (lines script) × TakesApartAt (items_of (lines script)) number
+Explains asked script fault.NoWork = IsFaultless Schedule (lines script) × HasNoWork (items_of (lines script))
+Explains asked script (fault.TooManyActors actors) = IsFaultless Schedule (lines script) × HasCrowd (items_of (lines script)) actors
+Explains asked script (fault.SetupFails number said) = IsFaultless Schedule (lines script) × RefusesAt asked (items_of (lines script)) number (string_bytes said)
+Explains asked script (fault.NoOutcome number outcomes) = IsFaultless Schedule (lines script) × LacksOutcome asked (items_of (lines script)) number outcomes
+Explains asked script fault.Memory = IsFaultless Schedule (lines script)
+Explains asked script fault.Changed = IsFaultless Schedule (lines script)
+Explains asked script (fault.Unwritable error) = IsFaultless Schedule (lines script)

@@ -3,4 +3,7 @@ pub mod Division
 pub mod Sorting
 pub mod Listing
 pub mod Listed
+pub mod Reasons
 pub mod Explores
+pub mod Trial
+pub mod Faults

@@ -61,7 +61,7 @@ impl<T: Drop> From<AllocFailed<T>> for Fault {
 }
 
 impl From<OrdersFault> for Fault {
-    ghost use Rattle.explore.specs.Explores.{IsOfRun};
+    ghost use Rattle.explore.specs.Faults.{IsOfRun};
 
     ghost from_gives = { λ _ e. IsOfRun e };
 

@@ -1,19 +1,20 @@
 //! An exploration, from the bytes of a script to those of the list.
 
-ghost use Rattle.std.specs.Prelude.{◌≡◌, ◌<◌, ◌^◌, true, None, length, IfOk, IfErr};
+ghost use Rattle.std.specs.Prelude.{◌≡◌, ◌<◌, ◌^◌, true, None, Some, length, IfOk, IfErr};
 ghost use Rattle.std.specs.String.{string_bytes};
 ghost use Rattle.machine.specs.State.{is_config};
 ghost use Rattle.explorer.specs.Explored.{findings};
-ghost use Rattle.explore.specs.Explores.{verdict_of, list_for, IsFound, Explores, IsOfRun, Explains};
+ghost use Rattle.explore.specs.Explores.{verdict_of, list_for, IsFound, Explores, Explains};
+ghost use Rattle.explore.specs.Faults.{IsOfRun, IsUnshown};
 
 use crate::asked::Asked;
 use crate::fault::Fault;
 use crate::listing::{Listed, list, ranked, rows_of};
+use crate::said::Said;
 use crate::script::{Goes, parts_of};
 use crate::shown::shown;
 use crate::trial::try_setup;
 use explorer::{Exploration, Parts, explore, sample};
-use schedules::Schedule;
 use scripts::Mode;
 use std::alloc::Global;
 use std::io::Write;
@@ -34,15 +35,12 @@ pub enum Verdict {
 
 /// The path of the first order with the outcome of this number, from 1.
 fn path_of<'t>(rows: &[Listed<'t>], number: u64) -> Result<&'t [u32], Fault>
-    ensures { IfErr result IsOfRun }
+    ensures why { IfErr result (IsUnshown (Some number) (length rows.now)) }
 {
-    match usize::try_from(number.wrapping_sub(1)) {
-        Ok(rank) => match rows.get(rank) {
-            Some(row) => Ok(row.first),
-            None => Err(Fault::NoOutcome(number, rows.len())),
-        },
-        Err(_) => Err(Fault::NoOutcome(number, rows.len())),
+    if number == 0 || number > rows.len() as u64 {
+        return Err(Fault::NoOutcome(number, rows.len()));
     }
+    Ok(rows[number as usize - 1].first)
 }
 
 /// The first order with the outcome of this number, as a script.
@@ -51,16 +49,16 @@ fn shown_order(
     script: &[u8],
     goes: Goes,
     parts: &Parts,
-    schedule: &Schedule,
+    lines: &[Said],
     found: &[Listed<'_>],
     number: u64,
 ) -> Result<String, Fault>
     requires { is_config parts.now.config ≡ true }
-    ensures { IfErr result IsOfRun }
+    ensures why { IfErr result (IsUnshown (Some number) (length found.now)) }
 {
     let rows = ranked(alloc, found)?;
     let path = path_of(&rows, number)?;
-    Ok(shown(alloc, script, goes, parts, schedule, path)?)
+    Ok(shown(alloc, script, goes, parts, lines, path)?)
 }
 
 /// The text that is written: the list of outcomes, or an order with one of them.
@@ -70,12 +68,12 @@ fn text_of(
     script: &[u8],
     goes: Goes,
     parts: &Parts,
-    schedule: &Schedule,
+    lines: &[Said],
     found: &Exploration,
 ) -> Result<String, Fault>
     requires { is_config parts.now.config ≡ true }
     ensures list { asked.show ≡ None → IfOk result (λ text. string_bytes text ≡ list_for asked parts.now found.now.walk (findings found.now)) }
-    ensures why { IfErr result IsOfRun }
+    ensures why { IfErr result (IsUnshown asked.show (length found.now.table)) }
 {
     let rows = rows_of(alloc, &found.table)?;
     match asked.show {
@@ -84,7 +82,7 @@ fn text_of(
             let choice = parts.choice(asked.choice);
             Ok(list(alloc, choice, found.walk, asked.orders, turns, &rows)?)
         }
-        Some(number) => shown_order(alloc, script, goes, parts, schedule, &rows, number),
+        Some(number) => shown_order(alloc, script, goes, parts, lines, &rows, number),
     }
 }
 
@@ -129,17 +127,17 @@ pub fn explore_script<O: Write>(
     out: &mut O,
 ) -> Result<Verdict, Fault>
     ensures explores { IfOk result (λ verdict. Explores asked script.now verdict (O.contents out.old) (O.contents out.new)) }
-    ensures why { IfErr result (Explains script.now) }
+    ensures why { IfErr result (Explains asked script.now) }
 {
     let mut read = match scripts::read(alloc, script, Mode::Schedule) {
         Ok(read) => read,
         Err(fault) => return Err(Fault::Script(fault)),
     };
     read.config.placement = asked.placement;
-    let (parts, schedule, goes) = parts_of(alloc, script, read)?;
-    try_setup(alloc, goes, &parts, &schedule)?;
+    let (parts, lines, goes) = parts_of(alloc, script, read)?;
+    try_setup(alloc, &parts, &lines)?;
     let found = found_of(alloc, &parts, asked)?;
-    let text = text_of(alloc, asked, script, goes, &parts, &schedule, &found)?;
+    let text = text_of(alloc, asked, script, goes, &parts, &lines, &found)?;
     match out.write_all(text.as_bytes()) {
         Ok(()) => Ok(verdict_of(asked, &found)),
         Err(error) => Err(Fault::Unwritable(error)),

@@ -1,13 +1,13 @@
 //! The parts of a script.
 
-ghost use Rattle.std.specs.Prelude.{◌≡◌, ◌++◌, ◌<◌, ◌^◌, List, fold, map, length, false, [], IfOk, IfErr, OnOk};
+ghost use Rattle.std.specs.Prelude.{◌≡◌, ◌++◌, ◌+◌, ◌<◌, ◌≤◌, ◌^◌, List, fold, map, length, false, [], IfSome, IfOk, IfErr, OnOk};
 ghost use Rattle.std.specs.List.{filter_map, flat_map, list_any, position, before_first, after_first};
 ghost use Rattle.std.specs.Str.Lines.{lines};
 ghost use Rattle.scripts.specs.declared.meaning.Item.{Item};
 ghost use Rattle.scripts.specs.Work.{with_actor};
 ghost use Rattle.explore.specs.Division.{shown_row, IsDivided};
-ghost use Rattle.explore.specs.Explores.{IsOfRun};
-ghost use Rattle.explore.specs.Said.{IsRead};
+ghost use Rattle.explore.specs.Faults.{IsUnsorted, IsUndivided};
+ghost use Rattle.explore.specs.Said.{said_of_item, IsRead};
 ghost use Rattle.explore.specs.Sorting.{goes, steps_asked, is_apart, left, worker, begun, AreSorted};
 
 use crate::fault::Fault;
@@ -15,7 +15,6 @@ use crate::rows::{actors_of, rows_of};
 use crate::said::{Said, said_in};
 use explorer::{Parts, Row, copy_of_step};
 use machine::command::Step;
-use schedules::Schedule;
 use scripts::Script;
 use std::alloc::{AllocError, Global};
 
@@ -52,15 +51,17 @@ fn go_in(said: &[Said]) -> Option<usize>
 
 /// The first line that takes a command apart.
 fn apart_in(said: &[Said]) -> Option<usize>
-    ensures { result ≡ position is_apart said.now }
+    ensures first { result ≡ position is_apart said.now }
+    ensures within { IfSome result (λ place. place < length said.now) }
 {
     said.iter().position(|line| is_apart(line))
 }
 
 /// The lines before the first `go`, and those after it.
-fn divided(said: &[Said]) -> (&[Said], &[Said])
+pub fn divided(said: &[Said]) -> (&[Said], &[Said])
     ensures before { result.0.now ≡ before_first goes said.now }
     ensures behind { result.1.now ≡ after_first goes said.now }
+    ensures within { length result.0.now + length result.1.now ≤ length said.now }
 {
     match go_in(said) {
         Some(place) => (&said[..place], &said[place + 1..]),
@@ -96,13 +97,14 @@ fn steps_of(alloc: Global, said: &[Said]) -> Result<Vec<Step>, AllocError>
 
 /// The work of each actor. The first line of the work has the number `first`.
 fn work_of(alloc: Global, setup: &[Said], work: &[Said], first: usize) -> Result<Vec<Row>, Fault>
+    requires { first + length work.now < 2 ^ 64 }
     ensures whole { OnOk result (list_any is_apart work.now ≡ false) }
     ensures rows { IfOk result (λ rows. map shown_row rows.items ≡ map (λ who. (who, filter_map (begun who) work.now)) (fold with_actor (fold with_actor [] (filter_map left setup.now)) (filter_map worker work.now))) }
     ensures few { IfOk result (λ rows. length rows.items < 2 ^ 32) }
-    ensures why { IfErr result IsOfRun }
+    ensures why { IfErr result (IsUnsorted setup.now work.now first) }
 {
     if let Some(place) = apart_in(work) {
-        return Err(Fault::TakesApart(first.saturating_add(place)));
+        return Err(Fault::TakesApart(first + place));
     }
     let actors = actors_of(alloc, setup, work)?;
     if actors.is_empty() {
@@ -127,32 +129,33 @@ struct Sorted {
 fn sort_lines(alloc: Global, said: &[Said]) -> Result<Sorted, Fault>
     ensures sorted { IfOk result (AreSorted said.now) }
     ensures few { IfOk result (λ parts. length parts.rows.items < 2 ^ 32) }
-    ensures why { IfErr result IsOfRun }
+    ensures why { IfErr result (IsUnsorted (before_first goes said.now) (before_first goes (after_first goes said.now)) (length (before_first goes said.now) + 2)) }
 {
     let (setup, behind) = divided(said);
     let (work, looks) = divided(behind);
-    let first = setup.len().saturating_add(1);
-    let second = first.saturating_add(work.len()).saturating_add(1);
+    let first = setup.len() + 1;
+    let second = first + work.len() + 1;
     Ok(Sorted {
         setup: steps_of(alloc, setup)?,
-        rows: work_of(alloc, setup, work, first.saturating_add(1))?,
+        rows: work_of(alloc, setup, work, first + 1)?,
         looks: steps_of(alloc, looks)?,
         goes: Goes { first, second },
     })
 }
 
-/// The parts of a script, its schedule, and the lines at which its parts end.
+/// The parts of a script, what each of its lines asks for, and the lines at which its parts end.
 pub fn parts_of(
     alloc: Global,
     text: &[u8],
     script: Script,
-) -> Result<(Parts, Schedule, Goes), Fault>
+) -> Result<(Parts, Vec<Said>, Goes), Fault>
     ensures config { IfOk result (λ read. read.0.config ≡ script.config) }
     ensures read_faults { IfOk result (λ read. read.0.read_faults ≡ script.read_faults) }
     ensures write_faults { IfOk result (λ read. read.0.write_faults ≡ script.write_faults) }
     ensures divided { (is : List Item) → IsRead is (lines text.now) script.schedule → IfOk result (λ read. IsDivided is read.0) }
+    ensures lines { (is : List Item) → IsRead is (lines text.now) script.schedule → IfOk result (λ read. read.1.items ≡ map said_of_item is) }
     ensures few { IfOk result (λ read. length read.0.rows.items < 2 ^ 32) }
-    ensures why { IfErr result IsOfRun }
+    ensures why { (is : List Item) → IsRead is (lines text.now) script.schedule → IfErr result (IsUndivided is) }
 {
     let Script {
         config,
@@ -176,5 +179,5 @@ pub fn parts_of(
         rows,
         looks,
     };
-    Ok((parts, schedule, goes))
+    Ok((parts, said, goes))
 }

@@ -3,13 +3,13 @@
 ghost use Rattle.std.specs.Prelude.{◌≡◌, true};
 ghost use Rattle.machine.specs.State.{is_config};
 
+use crate::said::Said;
 use crate::script::Goes;
 use crate::trial::carry_line;
 use block_store::MemDevice;
 use driver::Stepper;
 use explorer::{Parts, carry_one, close_run, next_line, open_run};
 use machine::command::{Actor, Reply, Step};
-use schedules::Schedule;
 use scripts::lines::{as_text, first_line};
 use std::alloc::{AllocError, Global};
 
@@ -61,8 +61,9 @@ struct Writing<'s> {
     alloc: Global,
     /// The lines of the script that is explored.
     texts: &'s [&'s str],
+    /// What each of them asks for.
+    lines: &'s [Said],
     parts: &'s Parts,
-    schedule: &'s Schedule,
     /// For each row, how many of its lines were begun.
     begun: Vec<usize>,
     said: Vec<Reply>,
@@ -92,10 +93,8 @@ impl<'s> Writing<'s> {
                 self.text.push_str(text)?;
                 self.text.push('\n')?;
             }
-            for line in self.schedule.lines() {
-                if line.number == number {
-                    carry_line(self.alloc, run, &line.entry, &mut self.said)?;
-                }
+            if let Some(line) = self.lines.get(number.saturating_sub(1)) {
+                carry_line(self.alloc, run, line, &mut self.said)?;
             }
             add_expected(self.alloc, &mut self.said, &mut self.text)?;
         }
@@ -158,7 +157,7 @@ pub fn shown(
     script: &[u8],
     goes: Goes,
     parts: &Parts,
-    schedule: &Schedule,
+    lines: &[Said],
     path: &[u32],
 ) -> Result<String, AllocError>
     requires { is_config parts.now.config ≡ true }
@@ -169,8 +168,8 @@ pub fn shown(
     let mut writing = Writing {
         alloc,
         texts: &texts,
+        lines,
         parts,
-        schedule,
         begun,
         said: Vec::new(alloc),
         text: String::new(alloc),
