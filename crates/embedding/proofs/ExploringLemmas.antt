@@ -9,10 +9,11 @@ use Rattle.printer.specs.declared.options.Options.{Options}
 use Rattle.script_faults.specs.declared.fault.Fault.TheVariants as scripts_fault
 use Rattle.explore.specs.declared.fault.Fault.{Fault}
 use Rattle.explore.specs.declared.fault.Fault.TheVariants as fault
+use Rattle.explore.specs.declared.asked.Asked.{Asked}
 use Rattle.explore.specs.Explores.{Explains}
 use Rattle.embedding.specs.Calls.{IsUnsound, Tells}
-use Rattle.embedding.specs.declared.status.TheConstants.{OK, BAD_SCRIPT, NO_MEMORY, DIFFERS}
-use Rattle.embedding.specs.Exploring.{IsToldOf}
+use Rattle.embedding.specs.declared.status.TheConstants.{OK, BAD_SCRIPT, NO_MEMORY, DIFFERS, BAD_OPTIONS}
+use Rattle.embedding.specs.Exploring.{status_for, IsReasoned, IsToldOf}
 
 -- a script without a faulty line that is not too long can be run
 is_sound : (script : List ℕ) → length script ≤ SCRIPT_BYTES → IsFaultless Schedule (lines script) → IsUnsound script → ⊥
@@ -21,27 +22,42 @@ is_sound script short well (inr (n, cause, first)) =
     let none = well (n - 1) (omega (arith, first.within.0, first.within.1)) in
     let wrong : None ≡ Some cause = sym none ∙ first.faulty in cc
 
-pub told_by : (options : Options) (script text : List ℕ) (status : ℕ) (why : Fault) → length script ≤ SCRIPT_BYTES → Explains script why → IsToldOf why text status → status ≡ 1 → IsUnsound script → Tells options (codes "script") script (codes "script: ") text status
-told_by options script text status (fault.Script why) short explains (inl told) bad unsound = record { why = scripts_fault.Script why; reason = inr (short, explains); has = told.0; tells = told.1 }
-told_by options script text status (fault.Script why) short explains (inr lacks) bad unsound = absurd (omega (arith, lacks, bad))
-told_by options script text status (fault.TakesApart number) short explains told bad unsound = absurd (is_sound script short explains unsound)
-told_by options script text status fault.NoWork short explains told bad unsound = absurd (is_sound script short explains unsound)
-told_by options script text status (fault.TooManyActors actors) short explains told bad unsound = absurd (is_sound script short explains unsound)
-told_by options script text status (fault.SetupFails number said) short explains told bad unsound = absurd (is_sound script short explains unsound)
-told_by options script text status (fault.NoOutcome asked outcomes) short explains told bad unsound = absurd (is_sound script short explains unsound)
-told_by options script text status fault.Memory short explains told bad unsound = absurd (is_sound script short explains unsound)
-told_by options script text status fault.Changed short explains told bad unsound = absurd (is_sound script short explains unsound)
-told_by options script text status (fault.Unwritable error) short explains told bad unsound = absurd (is_sound script short explains unsound)
+pub told_by : (options : Options) (asked : Asked) (script text : List ℕ) (status : ℕ) (why : Fault) → length script ≤ SCRIPT_BYTES → Explains asked script why → IsToldOf why text status → status ≡ 1 → IsUnsound script → Tells options (codes "script") script (codes "script: ") text status
+told_by options asked script text status (fault.Script why) short explains (inl told) bad unsound = record { why = scripts_fault.Script why; reason = inr (short, explains); has = told.0; tells = told.1 }
+told_by options asked script text status (fault.Script why) short explains (inr lacks) bad unsound = absurd (omega (arith, lacks, bad))
+told_by options asked script text status (fault.TakesApart number) short explains told bad unsound = absurd (is_sound script short explains unsound)
+told_by options asked script text status fault.NoWork short explains told bad unsound = absurd (is_sound script short explains unsound)
+told_by options asked script text status (fault.TooManyActors actors) short explains told bad unsound = absurd (is_sound script short explains unsound)
+told_by options asked script text status (fault.SetupFails number said) short explains told bad unsound = absurd (is_sound script short explains unsound)
+told_by options asked script text status (fault.NoOutcome asked outcomes) short explains told bad unsound = absurd (is_sound script short explains unsound)
+told_by options asked script text status fault.Memory short explains told bad unsound = absurd (is_sound script short explains unsound)
+told_by options asked script text status fault.Changed short explains told bad unsound = absurd (is_sound script short explains unsound)
+told_by options asked script text status (fault.Unwritable error) short explains told bad unsound = absurd (is_sound script short explains unsound)
 
 -- what was said elsewhere under equal names
-pub told_as : (options : Options) (script text text' : List ℕ) (status status' : ℕ) (why : Fault) → text' ≡ text → status' ≡ status → length script ≤ SCRIPT_BYTES → Explains script why → IsToldOf why text status → status' ≡ 1 → IsUnsound script → Tells options (codes "script") script (codes "script: ") text' status'
-told_as options script text text' status status' why same equal short explains told bad unsound =
+pub told_as : (options : Options) (asked : Asked) (script text text' : List ℕ) (status status' : ℕ) (why : Fault) → text' ≡ text → status' ≡ status → length script ≤ SCRIPT_BYTES → Explains asked script why → IsToldOf why text status → status' ≡ 1 → IsUnsound script → Tells options (codes "script") script (codes "script: ") text' status'
+told_as options asked script text text' status status' why same equal short explains told bad unsound =
     let T : List ℕ → Type 0 = λ (t : List ℕ). Tells options (codes "script") script (codes "script: ") t status' in
     let S : ℕ → Type 0 = λ (n : ℕ). Tells options (codes "script") script (codes "script: ") text n in
-    subst T (sym same) (subst S (sym equal) (told_by options script text status why short explains told (sym equal ∙ bad) unsound))
+    subst T (sym same) (subst S (sym equal) (told_by options asked script text status why short explains told (sym equal ∙ bad) unsound))
 
 -- the status of a verdict is no bad script's
 pub never_bad : (n : ℕ) → (n ≡ OK) ⊎ (n ≡ NO_MEMORY) ⊎ (n ≡ DIFFERS) → n ≡ BAD_SCRIPT → ⊥
 never_bad n (inl e) bad = omega (arith, e, bad)
 never_bad n (inr (inl e)) bad = omega (arith, e, bad)
 never_bad n (inr (inr e)) bad = omega (arith, e, bad)
+
+-- nor that of options
+pub never_options : (n : ℕ) → (n ≡ OK) ⊎ (n ≡ NO_MEMORY) ⊎ (n ≡ DIFFERS) → n ≡ BAD_OPTIONS → ⊥
+never_options n (inl e) bad = omega (arith, e, bad)
+never_options n (inr (inl e)) bad = omega (arith, e, bad)
+never_options n (inr (inr e)) bad = omega (arith, e, bad)
+
+pub never_reasoned : (asked : Asked) (script : List ℕ) (n : ℕ) → (n ≡ OK) ⊎ (n ≡ NO_MEMORY) ⊎ (n ≡ DIFFERS) → (n ≡ BAD_SCRIPT) ⊎ (n ≡ BAD_OPTIONS) → IsReasoned asked script n
+never_reasoned asked script n known (inl bad) = absurd (never_bad n known bad)
+never_reasoned asked script n known (inr bad) = absurd (never_options n known bad)
+
+pub reasoned : (asked : Asked) (script : List ℕ) (status : ℕ) (why : Fault) → (status ≡ status_for why) ⊎ (status ≡ NO_MEMORY) → Explains asked script why → (status ≡ BAD_SCRIPT) ⊎ (status ≡ BAD_OPTIONS) → IsReasoned asked script status
+reasoned asked script status why (inl is) explains bad = inr (why, is, explains)
+reasoned asked script status why (inr lacks) explains (inl bad) = absurd (omega (arith, lacks, bad))
+reasoned asked script status why (inr lacks) explains (inr bad) = absurd (omega (arith, lacks, bad))

@@ -1,6 +1,7 @@
 -- What a caller asks of an exploration, and what it is told.
-use Rattle.std.specs.Prelude.{◌≡◌, ◌⊎◌, ℕ, Bool, ◌==◌, List, Option, Some, None, codes, if◌then◌else◌}
+use Rattle.std.specs.Prelude.{◌≡◌, ◌⊎◌, ◌<◌, ℕ, Bool, ◌==◌, List, length, Option, Some, None, codes, if◌then◌else◌}
 use Rattle.std.specs.Io.KnownBytes.{Appends}
+use Rattle.machine.specs.declared.limit.TheConstants.{SCRIPT_BYTES}
 use Rattle.script_faults.specs.declared.fault.Fault.TheVariants as scripts_fault
 use Rattle.script_faults.specs.Told.{AllTold}
 use Rattle.explorer.specs.declared.choice.Choice.{Choice}
@@ -9,10 +10,11 @@ use Rattle.explore.specs.declared.asked.Asked.{Asked}
 use Rattle.explore.specs.declared.asked.Sample.{Sample}
 use Rattle.explore.specs.declared.fault.Fault.{Fault}
 use Rattle.explore.specs.declared.fault.Fault.TheVariants as fault
+use Rattle.explore.specs.Explores.{Explains}
 use Rattle.explore.specs.declared.report.Verdict.{Verdict}
 use Rattle.explore.specs.declared.report.Verdict.TheVariants as verdict
 use Rattle.embedding.specs.declared.exploration.ExploreAsked.{ExploreAsked}
-use Rattle.embedding.specs.declared.status.TheConstants.{NO_MEMORY}
+use Rattle.embedding.specs.declared.status.TheConstants.{BAD_SCRIPT, NO_MEMORY, BAD_OPTIONS}
 use Rattle.embedding.specs.Calls.{placement_of, status_of_line}
 
 -- the sample, if one is asked for
@@ -44,6 +46,22 @@ IsPart (verdict.All outcomes) = ⊥
 IsPart (verdict.Sample outcomes) = ⊥
 IsPart (verdict.MoreOrders orders) = Unit {0}
 IsPart (verdict.MoreTurns turns) = Unit {0}
+
+-- the status of a fault. (Excludes that lack of memory counts as the script's fault, and the other way round.)
+abbrev pub status_for : Fault → ℕ
+status_for (fault.Script why) = status_of_line why
+status_for (fault.TakesApart number) = BAD_SCRIPT
+status_for fault.NoWork = BAD_SCRIPT
+status_for (fault.TooManyActors actors) = BAD_SCRIPT
+status_for (fault.SetupFails number said) = BAD_SCRIPT
+status_for (fault.NoOutcome asked outcomes) = BAD_OPTIONS
+status_for fault.Memory = NO_MEMORY
+status_for fault.Changed = NO_MEMORY
+status_for (fault.Unwritable error) = NO_MEMORY
+
+-- the script is too long, or this is the status of a true reason for which it was not explored. (Excludes the status of a reason that the script does not give.)
+abbrev pub IsReasoned : Asked → List ℕ → ℕ → Type 0
+IsReasoned asked script status = (SCRIPT_BYTES < length script) ⊎ ((why : Fault) × (status ≡ status_for why) × Explains asked script why)
 
 -- the text has all lines about a faulty line, and this is its status, if there was memory for them. What is said of another fault is only tested.
 abbrev pub IsToldOf : Fault → List ℕ → ℕ → Type 0

@@ -8,13 +8,13 @@ ghost use Rattle.printer.specs.Asked.{plain_as};
 ghost use Rattle.explore.specs.Explores.{Explores, Explains};
 ghost use Rattle.embedding.specs.declared.status.TheConstants.{OK, BAD_SCRIPT, NO_MEMORY, DIFFERS, BAD_OPTIONS};
 ghost use Rattle.embedding.specs.Calls.{placement_of, IsUnsound, Tells};
-ghost use Rattle.embedding.specs.Exploring.{sample_of, show_of, choice_of, exploration_of, IsWhole, IsPart, IsToldOf};
+ghost use Rattle.embedding.specs.Exploring.{sample_of, show_of, choice_of, exploration_of, IsWhole, IsPart, status_for, IsReasoned, IsToldOf};
 
 use crate::said::Said;
 use crate::status::{BAD_OPTIONS, BAD_SCRIPT, DIFFERS, NO_MEMORY, OK};
 use crate::{is_too_long, placement_of, tell_named};
 use explore::{Asked, Choice, Fault, Sample, Verdict, explore_script};
-use scripts::one_answer;
+use scripts::{ScriptFault, one_answer};
 use std::alloc::Global;
 use std::io::Write;
 use subcommands::Fault as ScriptsFault;
@@ -110,16 +110,15 @@ fn tell_verdict(verdict: Verdict, said: &mut Said) -> u8
     }
 }
 
-/// The status of a fault that is not of one line alone.
+/// The status of a fault.
 fn status_of(fault: &Fault) -> u8
-    ensures known { (result ≡ BAD_SCRIPT) ⊎ (result ≡ NO_MEMORY) ⊎ (result ≡ BAD_OPTIONS) }
+    ensures { result ≡ status_for fault.now }
 {
     match fault {
-        Fault::TakesApart(_)
-        | Fault::NoWork
-        | Fault::TooManyActors(_)
-        | Fault::SetupFails(_, _)
-        | Fault::Script(_) => BAD_SCRIPT,
+        Fault::Script(ScriptFault::At { line: _, cause: _ }) => BAD_SCRIPT,
+        Fault::Script(ScriptFault::Memory) => NO_MEMORY,
+        Fault::TakesApart(_) | Fault::NoWork | Fault::TooManyActors(_) | Fault::SetupFails(_, _) =>
+            BAD_SCRIPT,
         Fault::NoOutcome(_, _) => BAD_OPTIONS,
         // No run was seen to change. A write fails here if the bytes can't be kept.
         Fault::Memory | Fault::Changed | Fault::Unwritable(_) => NO_MEMORY,
@@ -130,6 +129,7 @@ fn status_of(fault: &Fault) -> u8
 fn tell_fault(fault: Fault, said: &mut Said) -> u8
     requires unsaid { said.old.bytes.items ≡ [] }
     ensures known { (result ≡ BAD_SCRIPT) ⊎ (result ≡ NO_MEMORY) ⊎ (result ≡ BAD_OPTIONS) }
+    ensures status { (result ≡ status_for fault) ⊎ (result ≡ NO_MEMORY) }
     ensures told { IsToldOf fault said.new.bytes.items result }
 {
     match fault {
@@ -155,6 +155,7 @@ pub fn explore_status(
     ensures known { (result ≤ NO_MEMORY) ⊎ (result ≡ DIFFERS) ⊎ (result ≡ BAD_OPTIONS) }
     ensures explored { result ≡ OK → (verdict : Verdict) × IsWhole verdict × Explores (exploration_of asked) script.now verdict (Some []) (Some printed.new.items) }
     ensures partial { result ≡ DIFFERS → (verdict : Verdict) × IsPart verdict × Explores (exploration_of asked) script.now verdict (Some []) (Some printed.new.items) }
+    ensures reason { (result ≡ BAD_SCRIPT) ⊎ (result ≡ BAD_OPTIONS) → IsReasoned (exploration_of asked) script.now result }
     ensures silent { result ≡ OK → said.new.bytes.items ≡ [] }
     ensures faultless { (result ≡ DIFFERS) ⊎ (result ≡ BAD_OPTIONS) → IsFaultless Schedule (lines script.now) }
     ensures unprinted { result ≢ OK → result ≢ DIFFERS → printed.new.items ≡ [] }

@@ -24,7 +24,7 @@ ghost use Rattle.std.specs.Io.KnownBytes.{Appends};
 ghost use Rattle.script_faults.specs.Told.{IsRefused, AllTold, StartsReport};
 ghost use Rattle.explore.specs.declared.report.Verdict.{Verdict};
 ghost use Rattle.explore.specs.Explores.{Explores};
-ghost use Rattle.embedding.specs.Exploring.{exploration_of, IsWhole, IsPart};
+ghost use Rattle.embedding.specs.Exploring.{exploration_of, IsWhole, IsPart, IsReasoned};
 ghost use Rattle.embedding.specs.declared.status.TheConstants.{OK, BAD_SCRIPT, NO_MEMORY, REFUSED, DIFFERS, BAD_OPTIONS};
 ghost use Rattle.embedding.specs.Buffers.{Got, Gives};
 ghost use Rattle.embedding.specs.Calls.{placement_of, options_of, chart_options_of, status_by, IsUnsound, WhyNot, Tells, TellsPart, TellsPartNamed, IsStart};
@@ -596,6 +596,7 @@ pub fn explore(
     // outcome is only tested.
     ensures explored { result ≡ OK → (bytes : List ℕ) × (verdict : Verdict) × IsWhole verdict × Explores (exploration_of asked.now) script.now verdict (Some []) (Some bytes) × Gives out.old out.new lengths.new.out bytes }
     ensures partial { result ≡ DIFFERS → (bytes : List ℕ) × (verdict : Verdict) × IsPart verdict × Explores (exploration_of asked.now) script.now verdict (Some []) (Some bytes) × Gives out.old out.new lengths.new.out bytes }
+    ensures reason { (result ≡ BAD_SCRIPT) ⊎ (result ≡ BAD_OPTIONS) → IsReasoned (exploration_of asked.now) script.now result }
     ensures silent { result ≡ OK → (lengths.new.err ≡ 0) × (err.new ≡ err.old) }
     // DIFFERS: not all orders were run. BAD_OPTIONS: there is no outcome of the number that is to be shown.
     ensures faultless { (result ≡ DIFFERS) ⊎ (result ≡ BAD_OPTIONS) → IsFaultless Schedule (lines script.now) }

@@ -20,7 +20,7 @@ ghost use Rattle.subcommands.specs.Scripts.{PrintsScript, PrintsPart, EndsScript
 ghost use Rattle.subcommands.specs.Charted.{ListsScript};
 ghost use Rattle.explore.specs.declared.report.Verdict.{Verdict};
 ghost use Rattle.explore.specs.Explores.{Explores};
-ghost use Rattle.embedding.specs.Exploring.{exploration_of, IsWhole, IsPart};
+ghost use Rattle.embedding.specs.Exploring.{exploration_of, IsWhole, IsPart, IsReasoned};
 ghost use Rattle.embedding.specs.declared.status.TheConstants.{OK, BAD_SCRIPT, NO_MEMORY, REFUSED, DIFFERS, BAD_OPTIONS};
 ghost use Rattle.embedding.specs.Buffers.{Gives};
 ghost use Rattle.embedding.specs.Calls.{placement_of, options_of, chart_options_of, IsUnsound, Tells, TellsPart, TellsPartNamed};
@@ -176,6 +176,7 @@ pub extern "C" fn memcgrun_proved_explore(
     ensures known { (result ≤ NO_MEMORY) ⊎ (result ≡ DIFFERS) ⊎ (result ≡ BAD_OPTIONS) }
     ensures explored { result ≡ OK → (bytes : List ℕ) × (verdict : Verdict) × IsWhole verdict × Explores (exploration_of asked.now) script.now verdict (Some []) (Some bytes) × Gives out.old out.new lengths.new.out bytes }
     ensures partial { result ≡ DIFFERS → (bytes : List ℕ) × (verdict : Verdict) × IsPart verdict × Explores (exploration_of asked.now) script.now verdict (Some []) (Some bytes) × Gives out.old out.new lengths.new.out bytes }
+    ensures reason { (result ≡ BAD_SCRIPT) ⊎ (result ≡ BAD_OPTIONS) → IsReasoned (exploration_of asked.now) script.now result }
     ensures silent { result ≡ OK → (lengths.new.err ≡ 0) × (err.new ≡ err.old) }
     ensures faultless { (result ≡ DIFFERS) ⊎ (result ≡ BAD_OPTIONS) → IsFaultless Schedule (lines script.now) }
     ensures unprinted { result ≢ OK → result ≢ DIFFERS → (lengths.new.out ≡ 0) × (out.new ≡ out.old) }
