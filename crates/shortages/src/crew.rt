@@ -19,14 +19,14 @@ const ENTRIES: usize = 1;
 
 /// What a machine is opened with, and what it is asked.
 #[derive(Drop)]
-pub struct Crew {
+struct Crew {
     config: Config,
     device: MemDevice,
     commands: Vec<Command>,
 }
 
 impl Crew {
-    pub fn new(alloc: Global) -> Option<Crew> {
+    fn new(alloc: Global) -> Option<Crew> {
         let config = crate::walk::config(alloc).ok()?;
         let path = crate::walk::text(alloc, "/a").ok()?;
         Some(Crew {
@@ -38,7 +38,15 @@ impl Crew {
 }
 
 /// Opens the machine, asks it, and ends it.
-pub fn work<R: Wait>(rt: &R, hunt: &mut Hunt, crew: Crew) {
+pub fn work<R: Wait>(rt: &R, hunt: &mut Hunt) {
+    match Crew::new(hunt.alloc()) {
+        Some(crew) if hunt.begins() => work_with(rt, hunt, crew),
+        Some(_) => {}
+        None => hunt.demand(false, "there is nothing to open"),
+    }
+}
+
+fn work_with<R: Wait>(rt: &R, hunt: &mut Hunt, crew: Crew) {
     if !try_work(rt, hunt, crew) {
         hunt.refused("live open");
         match Crew::new(hunt.alloc()) {

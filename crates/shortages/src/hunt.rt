@@ -5,13 +5,13 @@ use machine::reply::Reply;
 use std::alloc::Global;
 
 /// The number of allocations after the last step.
-const BEHIND_ALL: u32 = 1000;
+const AFTER_ALL: u32 = 1000;
 
 /// Where the refusal is met.
 #[derive(Clone, Copy)]
 pub enum Met {
-    /// Before the first step.
-    Before,
+    /// Before the first step, after this number of allocations that the hunt makes.
+    Before(u32),
     /// In this step, which reported it.
     In(&'static str),
     /// After all steps.
@@ -29,8 +29,8 @@ pub struct Told {
 #[derive(Drop)]
 pub struct Hunt {
     alloc: Global,
-    /// Whether an allocation is to be refused.
-    is_on: bool,
+    /// How many allocations the hunt makes before the first step. `None` if no allocation is to be refused.
+    ahead: Option<u32>,
     /// `None` if no allocation was refused yet.
     met: Option<Met>,
     /// The first thing that is wrong.
@@ -46,11 +46,11 @@ fn is_given(alloc: Global, number: u32) -> bool {
 }
 
 impl Hunt {
-    /// A hunt for the one allocation that is refused.
-    pub fn new(alloc: Global) -> Hunt {
+    /// A hunt for the one allocation that is refused. It makes this number of allocations before the first step.
+    pub fn new(alloc: Global, ahead: u32) -> Hunt {
         Hunt {
             alloc,
-            is_on: true,
+            ahead: Some(ahead),
             met: None,
             wrong: None,
         }
@@ -60,7 +60,7 @@ impl Hunt {
     pub fn none(alloc: Global) -> Hunt {
         Hunt {
             alloc,
-            is_on: false,
+            ahead: None,
             met: None,
             wrong: None,
         }
@@ -90,26 +90,32 @@ impl Hunt {
         }
     }
 
-    /// Makes this number of allocations, until one is refused. Returns whether one was.
-    fn burn(&mut self, allocations: u32) -> bool {
-        for number in 0..allocations {
-            if !is_given(self.alloc, number) {
-                return true;
-            }
-        }
-        false
+    /// Whether an allocation is to be refused, and none was yet.
+    pub fn is_on(&self) -> bool {
+        self.ahead.is_some() && self.met.is_none()
     }
 
-    /// Makes this number of allocations before the first step.
-    pub fn burn_before(&mut self, allocations: u32) {
-        if self.burn(allocations) {
-            self.met = Some(Met::Before);
+    /// How many of these allocations succeed before one is refused. `None` if all do.
+    fn burn(&self, allocations: u32) -> Option<u32> {
+        for number in 0..allocations {
+            if !is_given(self.alloc, number) {
+                return Some(number);
+            }
         }
+        None
+    }
+
+    /// Makes the allocations that come before the first step. Returns whether the steps are to be taken: not if one of
+    /// these allocations is refused.
+    pub fn begins(&mut self) -> bool {
+        let refused = self.ahead.and_then(|ahead| self.burn(ahead));
+        self.met = refused.map(Met::Before);
+        refused.is_none()
     }
 
     /// Makes allocations after the last step, if none was refused yet.
     pub fn burn_after(&mut self) {
-        if self.is_on && self.met.is_none() && self.burn(BEHIND_ALL) {
+        if self.is_on() && self.burn(AFTER_ALL).is_some() {
             self.met = Some(Met::After);
         }
     }
@@ -123,6 +129,6 @@ impl Hunt {
 
     /// Whether this is the first answer that reports that memory is refused.
     pub fn is_refusal(&self, reply: Option<Reply>) -> bool {
-        self.is_on && self.met.is_none() && reply == Some(Reply::Refused(Refusal::NoMemory))
+        self.is_on() && reply == Some(Reply::Refused(Refusal::NoMemory))
     }
 }

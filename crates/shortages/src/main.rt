@@ -1,14 +1,16 @@
 //! A machine that is refused one allocation, at any place that needs memory.
 //!
-//! The program reads a number, makes that number of allocations, and then takes steps: events of a book, openings,
-//! runs. A step in which an allocation is refused has to say so. Then everything has to be as it was before. What
-//! follows has to be as with ample memory.
+//! The tour has parts: the events of two books, openings, a run. The argument is a number and the name of a step. The
+//! program sets up the part that has the step, makes that number of allocations, and then takes the part's steps. A
+//! step in which an allocation is refused has to say so. Then everything has to be as it was before. What follows has
+//! to be as with ample memory.
 //!
-//! The program prints the step in which the allocation was refused, or what is wrong. Without a number, no
-//! allocation is to be refused, and it prints the answers to the events.
+//! The program prints the step in which the allocation was refused, or what is wrong. Without an argument no allocation
+//! is to be refused. Then it goes through all parts, and prints the answers to the events.
 #![tactic(auto)]
 
 mod asking;
+mod case;
 mod crew;
 mod hunt;
 mod openings;
@@ -18,34 +20,41 @@ mod step;
 mod tour;
 mod walk;
 
-use crew::Crew;
+use case::{Case, Part};
 use hunt::{Hunt, Met, Told};
-use machine::config::Config;
 use machine::reply::Reply;
-use runs::{Run, run_again};
 use std::alloc::Global;
-use std::io;
 use std::io::{ErrorKind, Write};
 use std::process::ExitCode;
+use std::rt::Env;
 use std::sync::Wait;
+use std::{io, str};
 use tour::Plan;
-use walk::{Machine, config};
+use walk::Machine;
 
-/// Takes the steps of the plan. If memory was refused in one of them, compares what follows.
-fn walk_by(hunt: &mut Hunt, machine: &mut Machine, plan: Plan) {
-    if hunt.is_over() {
+/// The longest argument, in bytes.
+const LONGEST: usize = 80;
+
+/// Takes the steps of the plan, from the named one on. If memory is refused in one of them, compares what follows.
+fn hunt_from(hunt: &mut Hunt, plan: Plan, step: &str) {
+    let Ok(mut machine) = Machine::open(hunt.alloc(), plan) else {
+        hunt.demand(false, "there is no machine");
         return;
+    };
+    if hunt.begins() {
+        machine.lead_to(hunt, step);
+        machine.walk(hunt);
     }
-    machine.walk(hunt);
     if let Some(Met::In(_)) = hunt.met() {
         match Machine::open(hunt.alloc(), plan) {
             Ok(mut other) => {
-                compare(hunt, machine, &mut other);
+                compare(hunt, &mut machine, &mut other);
                 other.close();
             }
             Err(_) => hunt.demand(false, "there is no other machine"),
         }
     }
+    machine.close();
 }
 
 /// The machine continues as the other one does, which is refused no memory.
@@ -60,45 +69,6 @@ fn compare(hunt: &mut Hunt, machine: &mut Machine, other: &mut Machine) {
         "what follows is answered otherwise than with ample memory",
     );
     hunt.demand(none.wrong().is_none(), "ample memory is refused");
-}
-
-/// What is opened and run. It is made before an allocation may be refused.
-#[derive(Drop)]
-struct Others {
-    config: Config,
-    run: Run,
-    crew: Crew,
-}
-
-impl Others {
-    fn new(alloc: Global) -> Option<Others> {
-        Some(Others {
-            config: config(alloc).ok()?,
-            run: Run::new(alloc)?,
-            crew: Crew::new(alloc)?,
-        })
-    }
-
-    /// Opens and runs them one after the other, until the refusal is met.
-    fn go<R: Wait>(self, rt: &R, hunt: &mut Hunt) {
-        let Others { config, run, crew } = self;
-        if !hunt.is_over() {
-            openings::open(hunt, config);
-        }
-        if !hunt.is_over() {
-            openings::open_marks(hunt);
-        }
-        if !hunt.is_over() {
-            let ran = run.run(hunt.alloc());
-            ran.tell(hunt);
-            if !hunt.is_over() {
-                crew::work(rt, hunt, crew);
-            }
-            hunt.burn_after();
-            ran.compare(hunt);
-            run_again(hunt);
-        }
-    }
 }
 
 fn print_told<O: Write>(out: &mut O, told: &[Told]) -> io::Result<()> {
@@ -118,96 +88,71 @@ fn print_met<O: Write>(out: &mut O, hunt: &Hunt) -> io::Result<()> {
     match (hunt.wrong(), hunt.met()) {
         (Some(why), Some(Met::In(name))) => writeln!(out, "wrong in {name}: {why}"),
         (Some(why), _) => writeln!(out, "wrong: {why}"),
-        (None, Some(Met::Before)) => writeln!(out, "before"),
+        (None, Some(Met::Before(made))) => writeln!(out, "before {made}"),
         (None, Some(Met::In(name))) => writeln!(out, "in {name}"),
         (None, Some(Met::After)) => writeln!(out, "after"),
         (None, None) => writeln!(out, "nobody is told that memory is refused"),
     }
 }
 
-/// Takes all steps. After this number of allocations, one is to be refused.
-fn hunt_behind<R: Wait, O: Write>(
+/// Goes through the part of the tour that has the step. An allocation is to be refused in it.
+fn hunt_for<R: Wait, O: Write>(
     rt: &R,
-    count: u32,
-    few: &mut Machine,
-    many: &mut Machine,
-    others: Others,
-    out: &mut O,
     alloc: Global,
+    case: Case<'_>,
+    out: &mut O,
 ) -> io::Result<()> {
-    let mut hunt = Hunt::new(alloc);
-    hunt.burn_before(count);
-    walk_by(&mut hunt, few, Plan::Few);
-    walk_by(&mut hunt, many, Plan::Many);
-    others.go(rt, &mut hunt);
+    let mut hunt = Hunt::new(alloc, case.ahead);
+    match case.part() {
+        Part::Machine(plan) => hunt_from(&mut hunt, plan, case.step),
+        Part::Openings => openings::open(&mut hunt),
+        Part::Marks => openings::open_marks(&mut hunt),
+        Part::Run => runs::run_twice(&mut hunt),
+        Part::Live => crew::work(rt, &mut hunt),
+    }
+    hunt.burn_after();
     print_met(out, &hunt)
 }
 
-/// Takes all steps with ample memory.
-fn walk_through<R: Wait, O: Write>(
-    rt: &R,
-    few: &mut Machine,
-    many: &mut Machine,
-    others: Others,
-    out: &mut O,
-    alloc: Global,
-) -> io::Result<()> {
+/// Takes all steps of the plan with ample memory, and prints the answers.
+fn walk_through<O: Write>(none: &mut Hunt, plan: Plan, out: &mut O) -> io::Result<()> {
+    let Ok(mut machine) = Machine::open(none.alloc(), plan) else {
+        return Err(ErrorKind::OutOfMemory.into());
+    };
+    machine.walk(none);
+    machine.end(none);
+    let printed = print_told(out, machine.told());
+    machine.close();
+    printed
+}
+
+/// Goes through the whole tour with ample memory.
+fn go_through<R: Wait, O: Write>(rt: &R, alloc: Global, out: &mut O) -> io::Result<()> {
     let mut none = Hunt::none(alloc);
-    few.walk(&mut none);
-    few.end(&mut none);
-    print_told(out, few.told())?;
-    many.walk(&mut none);
-    many.end(&mut none);
-    print_told(out, many.told())?;
-    others.go(rt, &mut none);
+    walk_through(&mut none, Plan::Few, out)?;
+    walk_through(&mut none, Plan::Many, out)?;
+    openings::open(&mut none);
+    openings::open_marks(&mut none);
+    runs::run_twice(&mut none);
+    crew::work(rt, &mut none);
     match none.wrong() {
         Some(why) => writeln!(out, "wrong: {why}"),
         None => Ok(()),
     }
 }
 
-fn out_of_memory() -> io::Error {
-    ErrorKind::OutOfMemory.into()
-}
-
-/// Sets everything up, and takes it down at the end.
-fn work<R: Wait, O: Write>(
-    rt: &R,
-    alloc: Global,
-    count: Option<u32>,
-    out: &mut O,
-) -> io::Result<()> {
-    let Some(others) = Others::new(alloc) else {
-        return Err(out_of_memory());
+/// Does what the first argument says. Without one, no allocation is refused. The argument is read without an
+/// allocation.
+fn serve<R: Env + AllocGlobal + Wait, O: Write>(rt: &R, out: &mut O) -> io::Result<()> {
+    let mut buffer = [0; LONGEST];
+    let words = match rt.arg(1, &mut buffer) {
+        Ok(length) => buffer.get(..length).and_then(|it| str::from_utf8(it).ok()),
+        Err(_) => None,
     };
-    let Ok(mut few) = Machine::open(alloc, Plan::Few) else {
-        return Err(out_of_memory());
-    };
-    let done = match Machine::open(alloc, Plan::Many) {
-        Err(_) => Err(out_of_memory()),
-        Ok(mut many) => {
-            let done = match count {
-                Some(count) => { hunt_behind(rt, count, &mut few, &mut many, others, out, alloc) }
-                None => walk_through(rt, &mut few, &mut many, others, out, alloc),
-            };
-            many.close();
-            done
-        }
-    };
-    few.close();
-    done
-}
-
-/// The number on standard input, if there is one.
-fn number<R: Input + AllocGlobal>(rt: &R) -> io::Result<Option<u32>> {
-    let mut line = String::new(rt.alloc());
-    rt.read_line(&mut line)?;
-    Ok(line.as_str().trim().parse::<u32>().ok())
-}
-
-fn serve<R: Input + AllocGlobal + Wait, O: Write>(rt: &R, out: &mut O) -> io::Result<()> {
-    let count = number(rt)?;
-    work(rt, rt.alloc(), count, out)
+    match words.and_then(Case::of) {
+        Some(case) => hunt_for(rt, rt.alloc(), case, out),
+        None => go_through(rt, rt.alloc(), out),
+    }
 }
 
 fn main(rt: HostRuntime) -> ExitCode {

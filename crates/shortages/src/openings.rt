@@ -20,7 +20,15 @@ fn deny(hunt: &mut Hunt, name: &'static str, cause: Refusal) {
 }
 
 /// Opens a book, takes five passes from it, and closes it.
-pub fn open(hunt: &mut Hunt, config: Config) {
+pub fn open(hunt: &mut Hunt) {
+    match config(hunt.alloc()) {
+        Ok(config) if hunt.begins() => open_with(hunt, config),
+        Ok(_) => {}
+        Err(_) => hunt.demand(false, "there is nothing to open"),
+    }
+}
+
+fn open_with(hunt: &mut Hunt, config: Config) {
     let opened = match Book::open(hunt.alloc(), config) {
         Ok(book) => Ok(book),
         Err(cause) => {
@@ -81,6 +89,9 @@ fn reserve(hunt: &mut Hunt, pass: &mut Pass, name: &'static str) {
 
 /// Opens marks.
 pub fn open_marks(hunt: &mut Hunt) {
+    if !hunt.begins() {
+        return;
+    }
     let opened = match Marks::open(hunt.alloc(), FRAMES) {
         Ok(opened) => Some(opened),
         Err(_) => {

@@ -16,7 +16,7 @@ const ANSWERS: &str = "1 7\n1 0\n8192\nerror EBUSY\n";
 
 /// What a run is given.
 #[derive(Drop)]
-pub struct Run {
+struct Run {
     config: Config,
     device: MemDevice,
     schedule: Schedule,
@@ -24,7 +24,7 @@ pub struct Run {
 
 /// The result of a run.
 #[derive(Drop)]
-pub struct Ran {
+struct Ran {
     answers: Vec<Reply>,
     end: Option<Stop>,
 }
@@ -43,7 +43,7 @@ fn text(alloc: Global, answers: &[Reply]) -> Result<String, AllocError> {
 }
 
 impl Run {
-    pub fn new(alloc: Global) -> Option<Run> {
+    fn new(alloc: Global) -> Option<Run> {
         match read(alloc, SCRIPT.as_bytes(), Mode::Schedule) {
             Ok(
                 Script {
@@ -61,7 +61,7 @@ impl Run {
     }
 
     /// Runs it.
-    pub fn run(self, alloc: Global) -> Ran {
+    fn run(self, alloc: Global) -> Ran {
         let Run {
             config,
             mut device,
@@ -92,7 +92,7 @@ impl Ran {
     }
 
     /// Takes note of a refusal.
-    pub fn tell(&self, hunt: &mut Hunt) {
+    fn tell(&self, hunt: &mut Hunt) {
         match self.end {
             None => {}
             Some(Stop::Refused(Refusal::NoMemory)) | Some(Stop::Closed) => hunt.refused("run"),
@@ -104,7 +104,7 @@ impl Ran {
     }
 
     /// The answers have to be those with ample memory, or their beginning if memory was refused.
-    pub fn compare(&self, hunt: &mut Hunt) {
+    fn compare(&self, hunt: &mut Hunt) {
         let known = match self.refused_at() {
             Some(at) => self.answers.get(..at),
             None => Some(self.answers.as_slice()),
@@ -121,8 +121,25 @@ impl Ran {
     }
 }
 
+/// Runs it, and then again.
+pub fn run_twice(hunt: &mut Hunt) {
+    match Run::new(hunt.alloc()) {
+        Some(run) if hunt.begins() => run_with(hunt, run),
+        Some(_) => {}
+        None => hunt.demand(false, "there is nothing to run"),
+    }
+}
+
+fn run_with(hunt: &mut Hunt, run: Run) {
+    let ran = run.run(hunt.alloc());
+    ran.tell(hunt);
+    hunt.burn_after();
+    ran.compare(hunt);
+    run_again(hunt);
+}
+
 /// Runs it again, with ample memory, to its end.
-pub fn run_again(hunt: &mut Hunt) {
+fn run_again(hunt: &mut Hunt) {
     let Some(run) = Run::new(hunt.alloc()) else {
         hunt.demand(false, "there is nothing to run");
         return;

@@ -29,6 +29,8 @@ pub struct Machine {
     pub(crate) pass: Pass,
     pub(crate) device: MemDevice,
     steps: Vec<Step>,
+    /// How many of these were taken.
+    taken: usize,
     /// The path of the next group, so that it takes no memory.
     pub(crate) path: Option<Text>,
     /// What was answered since the machine was set up.
@@ -113,6 +115,7 @@ impl Machine {
                     pass,
                     device,
                     steps,
+                    taken: 0,
                     path: None,
                     told,
                     last: ANSWERS,
@@ -143,6 +146,7 @@ impl Machine {
             pass: _,
             device: _,
             steps: _,
+            taken: _,
             path: _,
             told: _,
             last: _,
@@ -160,17 +164,39 @@ impl Machine {
         self.last = other.told.len();
     }
 
-    /// Takes the steps of its plan, until the refusal is met, or it has gone far enough.
+    /// The next step of its plan.
+    fn next(&self) -> Option<Step> {
+        self.steps.get(self.taken).copied()
+    }
+
+    /// Takes the steps of its plan before the one of this name, with ample memory.
+    pub fn lead_to(&mut self, hunt: &mut Hunt, name: &str) {
+        let mut none = Hunt::none(hunt.alloc());
+        for _step in 0..self.steps.len() {
+            match self.next() {
+                Some(step) if step.name != name => self.take_next(&mut none, step),
+                _ => break,
+            }
+        }
+        hunt.demand(self.next().is_some(), "there is no such step");
+        hunt.demand(none.wrong().is_none(), "memory is refused before the step");
+    }
+
+    /// Takes the steps of its plan that are left, until the refusal is met, or it has gone far enough.
     pub fn walk(&mut self, hunt: &mut Hunt) {
-        for at in 0..self.steps.len() {
+        for _step in 0..self.steps.len() {
             if hunt.is_over() || self.told.len() >= self.last {
                 return;
             }
-            if let Some(step) = self.steps.get(at) {
-                let step = *step;
-                self.take(hunt, step);
+            if let Some(step) = self.next() {
+                self.take_next(hunt, step);
             }
         }
+    }
+
+    fn take_next(&mut self, hunt: &mut Hunt, step: Step) {
+        self.taken = self.taken.saturating_add(1);
+        self.take(hunt, step);
     }
 
     /// Asks what every machine is asked at the end.
@@ -185,6 +211,10 @@ impl Machine {
     pub fn take(&mut self, hunt: &mut Hunt, step: Step) {
         if self.pass.reserve(ROOM).is_err() {
             hunt.demand(false, "a pass has no room");
+            return;
+        }
+        if !hunt.is_on() {
+            self.ask(hunt, step);
             return;
         }
         let before = look(&mut self.book, &mut self.pass);
