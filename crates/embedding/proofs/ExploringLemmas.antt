@@ -1,10 +1,9 @@
 -- What is said of a script that can't be explored.
-use Rattle.std.proofs.Common.{◌≡◌, ◌⊎◌, inl, inr, ◌<◌, ◌≤◌, ◌-◌, ℕ, List, length, Option, Some, None, codes, sym, ap, subst, ◌∙◌, arith}
+use Rattle.std.proofs.Common.{◌≡◌, ◌⊎◌, inl, inr, ◌≤◌, ◌-◌, ℕ, List, length, Some, None, codes, sym, subst, ◌∙◌, arith}
 use Rattle.std.specs.Str.Lines.{lines}
 use Rattle.machine.specs.declared.limit.TheConstants.{SCRIPT_BYTES}
-use Rattle.scripts.specs.declared.fault.Cause.{Cause}
 use Rattle.scripts.specs.declared.mode.Mode.TheVariants.{Schedule}
-use Rattle.scripts.specs.Script.{IsFirstFault, IsFaultless}
+use Rattle.scripts.specs.Script.{IsFaultless}
 use Rattle.printer.specs.declared.options.Options.{Options}
 use Rattle.script_faults.specs.declared.fault.Fault.TheVariants as scripts_fault
 use Rattle.explore.specs.declared.fault.Fault.{Fault}
@@ -25,11 +24,11 @@ is_sound script short well (inr (n, cause, first)) =
 pub told_by : (options : Options) (asked : Asked) (script text : List ℕ) (status : ℕ) (why : Fault) → length script ≤ SCRIPT_BYTES → Explains asked script why → IsToldOf why text status → status ≡ 1 → IsUnsound script → Tells options (codes "script") script (codes "script: ") text status
 told_by options asked script text status (fault.Script why) short explains (inl told) bad unsound = record { why = scripts_fault.Script why; reason = inr (short, explains); has = told.0; tells = told.1 }
 told_by options asked script text status (fault.Script why) short explains (inr lacks) bad unsound = absurd (omega (arith, lacks, bad))
-told_by options asked script text status (fault.TakesApart number) short explains told bad unsound = absurd (is_sound script short explains unsound)
-told_by options asked script text status fault.NoWork short explains told bad unsound = absurd (is_sound script short explains unsound)
-told_by options asked script text status (fault.TooManyActors actors) short explains told bad unsound = absurd (is_sound script short explains unsound)
-told_by options asked script text status (fault.SetupFails number said) short explains told bad unsound = absurd (is_sound script short explains unsound)
-told_by options asked script text status (fault.NoOutcome asked outcomes) short explains told bad unsound = absurd (is_sound script short explains unsound)
+told_by options asked script text status (fault.TakesApart number) short explains told bad unsound = absurd (is_sound script short explains.0 unsound)
+told_by options asked script text status fault.NoWork short explains told bad unsound = absurd (is_sound script short explains.0 unsound)
+told_by options asked script text status (fault.TooManyActors actors) short explains told bad unsound = absurd (is_sound script short explains.0 unsound)
+told_by options asked script text status (fault.SetupFails number said) short explains told bad unsound = absurd (is_sound script short explains.0 unsound)
+told_by options asked script text status (fault.NoOutcome number outcomes) short explains told bad unsound = absurd (is_sound script short explains.0 unsound)
 told_by options asked script text status fault.Memory short explains told bad unsound = absurd (is_sound script short explains unsound)
 told_by options asked script text status fault.Changed short explains told bad unsound = absurd (is_sound script short explains unsound)
 told_by options asked script text status (fault.Unwritable error) short explains told bad unsound = absurd (is_sound script short explains unsound)
@@ -53,11 +52,13 @@ never_options n (inl e) bad = omega (arith, e, bad)
 never_options n (inr (inl e)) bad = omega (arith, e, bad)
 never_options n (inr (inr e)) bad = omega (arith, e, bad)
 
-pub never_reasoned : (asked : Asked) (script : List ℕ) (n : ℕ) → (n ≡ OK) ⊎ (n ≡ NO_MEMORY) ⊎ (n ≡ DIFFERS) → (n ≡ BAD_SCRIPT) ⊎ (n ≡ BAD_OPTIONS) → IsReasoned asked script n
-never_reasoned asked script n known (inl bad) = absurd (never_bad n known bad)
-never_reasoned asked script n known (inr bad) = absurd (never_options n known bad)
+pub never_reasoned : (asked : Asked) (script : List ℕ) (n n' : ℕ) → n' ≡ n → (n ≡ OK) ⊎ (n ≡ NO_MEMORY) ⊎ (n ≡ DIFFERS) → (n' ≡ BAD_SCRIPT) ⊎ (n' ≡ BAD_OPTIONS) → IsReasoned asked script n'
+never_reasoned asked script n n' same known (inl bad) = absurd (never_bad n known (sym same ∙ bad))
+never_reasoned asked script n n' same known (inr bad) = absurd (never_options n known (sym same ∙ bad))
 
-pub reasoned : (asked : Asked) (script : List ℕ) (status : ℕ) (why : Fault) → (status ≡ status_for why) ⊎ (status ≡ NO_MEMORY) → Explains asked script why → (status ≡ BAD_SCRIPT) ⊎ (status ≡ BAD_OPTIONS) → IsReasoned asked script status
-reasoned asked script status why (inl is) explains bad = inr (why, is, explains)
-reasoned asked script status why (inr lacks) explains (inl bad) = absurd (omega (arith, lacks, bad))
-reasoned asked script status why (inr lacks) explains (inr bad) = absurd (omega (arith, lacks, bad))
+-- the status of a fault is that of a true reason, unless memory ran out
+pub reasoned : (asked given : Asked) (script : List ℕ) (n n' : ℕ) (why : Fault) → given ≡ asked → n' ≡ n → (n ≡ status_for why) ⊎ (n ≡ NO_MEMORY) → Explains given script why → (n' ≡ BAD_SCRIPT) ⊎ (n' ≡ BAD_OPTIONS) → IsReasoned asked script n'
+reasoned asked given script n n' why is_asked same (inl is) explains bad =
+    let P : Asked → Type 0 = λ (a : Asked). Explains a script why in inr (why, same ∙ is, subst P is_asked explains)
+reasoned asked given script n n' why is_asked same (inr lacks) explains (inl bad) = absurd (omega (arith, same, lacks, bad))
+reasoned asked given script n n' why is_asked same (inr lacks) explains (inr bad) = absurd (omega (arith, same, lacks, bad))

@@ -1,9 +1,7 @@
-use Rattle.std.proofs.Common.{◌≡◌, ◌⊎◌, inl, inr, refl, sym, subst, ◌∙◌, ap, codes, List, ℕ, arith}
-use Rattle.printer.specs.Asked.{plain_as}
+use Rattle.std.proofs.Common.{inl, refl, sym, ◌∙◌, ap, arith}
 use Rattle.script_faults.specs.declared.fault.Fault.TheVariants as scripts_fault
 use Rattle.embedding.specs.declared.said.Said.{Said}
-use Rattle.embedding.specs.Calls.{placement_of, IsUnsound, Tells}
-use Rattle.embedding.proofs.ExploringLemmas.{told_as, never_bad}
+use Rattle.embedding.proofs.ExploringLemmas.{told_as, never_bad, never_reasoned, reasoned}
 use Rattle.embedding.proofs.exploration.explore_status.Goals as goal
 use Rattle.embedding.proofs.exploration.explore_status.Goals.{in-Ok, in-Err}
 
@@ -14,5 +12,14 @@ returns-then-is_too_long-clause-told c bad unsound =
 pub returns-then-status-ne-DIFFERS-clause-told : goal.returns-then-status-ne-DIFFERS-clause-told
 returns-then-status-ne-DIFFERS-clause-told c = elim c.match-explore_script.branch [
   | in-Ok w ↦ (λ bad unsound. absurd (never_bad _ w.tell_verdict-status.ensures.known (sym w.status-is ∙ bad)))
-  | in-Err w ↦ (λ bad unsound. told_as _ _ _ _ _ _ _ (ap (λ (s : Said). s.bytes.items) w.said-is) w.status-is (c.if-is_too_long.ensures.short refl) w.in-Err.ensures.why w.tell_fault-status.ensures.told bad unsound)
+  | in-Err w ↦ (λ bad unsound. told_as _ _ _ _ _ _ _ _ (ap (λ (s : Said). s.bytes.items) w.said-is) w.status-is (c.if-is_too_long.ensures.short refl) w.in-Err.ensures.why w.tell_fault-status.ensures.told bad unsound)
+]
+
+pub returns-then-is_too_long-clause-reason : goal.returns-then-is_too_long-clause-reason
+returns-then-is_too_long-clause-reason c = λ bad. inl (c.if-is_too_long.ensures.long refl)
+
+pub returns-then-status-ne-DIFFERS-clause-reason : goal.returns-then-status-ne-DIFFERS-clause-reason
+returns-then-status-ne-DIFFERS-clause-reason c = elim c.match-explore_script.branch [
+  | in-Ok w ↦ never_reasoned _ _ _ _ w.status-is w.tell_verdict-status.ensures.known
+  | in-Err w ↦ reasoned _ _ _ _ _ _ c.exploration_of.ensures w.status-is w.tell_fault-status.ensures.status w.in-Err.ensures.why
 ]
