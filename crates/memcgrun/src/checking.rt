@@ -14,6 +14,14 @@ use subcommands::{Options, read_and_check, read_script, status_of};
 /// How many files are checked at a time if the number of processors is unknown.
 const SOME_PROCESSORS: usize = 4;
 
+/// The text of a file, or the line that says why it can't be read.
+#[derive(Drop)]
+struct Text<'f> {
+    file: &'f str,
+    bytes: Option<Vec<u8>>,
+    err: Vec<u8>,
+}
+
 /// What the check of a file wrote, and its status.
 #[derive(Drop)]
 struct Checked {
@@ -43,6 +51,24 @@ fn check_one<R: Files + AllocGlobal, I: Read, O: Write, E: Write>(
     }
 }
 
+/// All bytes of a text. If it can't be read, a line says why.
+fn read_text<I: Read, E: Write>(
+    alloc: Global,
+    name: &str,
+    text: &mut I,
+    err: &mut E,
+) -> Option<Vec<u8>> {
+    match read_script(alloc, text) {
+        Ok(bytes) => Some(bytes),
+        Err(fault) => {
+            // The status reports the failure even if its line can't be written.
+            let _ = write!(err, "{name}: ");
+            let _ = status_of(Err(fault), err);
+            None
+        }
+    }
+}
+
 /// Checks a text, which is a script or a scenario.
 fn check_text<I: Read, O: Write, E: Write>(
     alloc: Global,
@@ -54,18 +80,27 @@ fn check_text<I: Read, O: Write, E: Write>(
 ) -> u8
     ensures success_or_failure { result ≤ 1 }
 {
-    let bytes = match read_script(alloc, text) {
-        Ok(bytes) => bytes,
-        Err(fault) => {
-            // The status reports the failure even if its line can't be written.
-            let _ = write!(err, "{name}: ");
-            return status_of(Err(fault), err);
-        }
-    };
-    if is_scenario(&bytes) {
-        return check_scenario(alloc, name, &bytes, out, err);
+    match read_text(alloc, name, text, err) {
+        Some(bytes) => check_bytes(alloc, options, name, &bytes, out, err),
+        None => FAILED,
     }
-    let mut script = bytes.as_slice();
+}
+
+/// Checks the bytes of a text.
+fn check_bytes<O: Write, E: Write>(
+    alloc: Global,
+    options: Options,
+    name: &str,
+    bytes: &[u8],
+    out: &mut O,
+    err: &mut E,
+) -> u8
+    ensures success_or_failure { result ≤ 1 }
+{
+    if is_scenario(bytes) {
+        return check_scenario(alloc, name, bytes, out, err);
+    }
+    let mut script = bytes;
     read_and_check(alloc, options, name, &mut script, out, err)
 }
 
@@ -91,16 +126,39 @@ fn check_scenario<O: Write, E: Write>(
     simulate(alloc, &asked, bytes, out, err)
 }
 
-/// Checks a file, and keeps what that writes.
-fn check_apart<R: Files + AllocGlobal>(rt: &R, options: Options, file: &str) -> Checked
-    ensures success_or_failure { result.status ≤ 1 }
-{
+/// The text of a file.
+fn text_of<'f, R: Files + AllocGlobal>(rt: &R, file: &'f str) -> Text<'f> {
     let alloc = rt.alloc();
+    let mut err = Vec::new(alloc);
+    let bytes = match open(rt, file, &mut err) {
+        Some(mut text) => read_text(alloc, file, &mut text, &mut err),
+        None => None,
+    };
+    Text { file, bytes, err }
+}
+
+/// Checks a text, and keeps what that writes.
+fn check_apart(alloc: Global, options: Options, text: &Text<'_>) -> Checked {
     let mut out = Vec::new(alloc);
     let mut err = Vec::new(alloc);
-    let mut nothing: &[u8] = &[];
-    let status = check_one(rt, options, file, &mut nothing, &mut out, &mut err);
+    let status = match &text.bytes {
+        Some(bytes) => check_bytes(alloc, options, text.file, bytes, &mut out, &mut err),
+        None => FAILED,
+    };
     Checked { out, err, status }
+}
+
+/// Writes what the check of a file wrote. The result says whether the check succeeded, and all of that was written.
+fn hand_on<O: Write, E: Write>(
+    text: &Text<'_>,
+    checked: &Checked,
+    out: &mut O,
+    err: &mut E,
+) -> bool {
+    if out.write_all(&checked.out).is_err() || err.write_all(&text.err).is_err() {
+        return false;
+    }
+    err.write_all(&checked.err).is_ok() && checked.status == 0
 }
 
 /// Checks files one after another. The result says whether each check succeeded.
@@ -120,8 +178,9 @@ fn check_in_turn<R: Files + AllocGlobal, I: Read, O: Write, E: Write>(
     all_met
 }
 
-/// Checks files at the same time, each in a thread of its own, and writes what the checks wrote in the order of the files.
-/// The result says whether each check succeeded. It is `None` if memory for that ran out, and then nothing is written.
+/// Reads files and checks them at the same time, each in a thread of its own. Writes what the checks wrote in the order of
+/// the files. The result says whether each check succeeded. It is `None` if memory for that ran out, and then nothing is
+/// written.
 fn check_together<R: Files + AllocGlobal + Threads + Sync, O: Write, E: Write>(
     rt: &R,
     options: Options,
@@ -129,15 +188,18 @@ fn check_together<R: Files + AllocGlobal + Threads + Sync, O: Write, E: Write>(
     out: &mut O,
     err: &mut E,
 ) -> Option<bool> {
-    let check = |at: usize| check_apart(rt, options, files[at]);
-    let checks = thread::map_indices(rt, rt.alloc(), files.len(), &check).ok()?;
+    let alloc = rt.alloc();
+    let mut texts = Vec::new(alloc);
+    for file in files {
+        texts.push(text_of(rt, *file)).ok()?;
+    }
+    let texts = texts.as_slice();
+    let check = |at: usize| check_apart(alloc, options, &texts[at]);
+    let checks = thread::map_indices(rt, alloc, texts.len(), &check).ok()?;
     let mut all_met = true;
-    for checked in checks.iter() {
-        let written = match out.write_all(&checked.out) {
-            Ok(()) => err.write_all(&checked.err),
-            Err(error) => Err(error),
-        };
-        all_met = all_met && checked.status == 0 && written.is_ok();
+    for (text, checked) in texts.iter().zip(checks.iter()) {
+        let met = hand_on(text, checked, out, err);
+        all_met = all_met && met;
     }
     Some(all_met)
 }
