@@ -1,18 +1,24 @@
-//! One event of a machine: how it is asked, and what the machine answers.
+//! How a machine is asked: the turns of a command, and single events.
 
-ghost use Rattle.std.specs.Prelude.{◌≡◌, ◌<◌};
+ghost use Rattle.std.specs.Prelude.{◌≡◌, ◌<◌, ℕ};
+ghost use Rattle.book.specs.Replies.{Replies};
+ghost use Rattle.turns.specs.Tickets.{IsOwn, OwnEvent, OwnReply, OwnStage, OwnTransition, IsHanded};
 
 use crate::hunt::{Hunt, Told};
-use crate::step::{Ask, End, GroupChange, Step, TaskChange};
+use crate::step::{Ask, Command, Step};
 use crate::walk::{Machine, text};
 use block_store::{BlockDevice, MemDevice};
 use book::{Book, Event, InTicket, Kept, OutTicket, Pass, Reply};
-use machine::event::{Cause, Op, Place};
-use machine::id::{GroupId, TaskId};
+use machine::command::Answer;
+use machine::event::Query;
 use machine::refusal::Refusal;
 use machine::reply::Reply as Said;
 use machine::text::Text;
-use turns::automaton::spend;
+use turns::automaton::{ask, let_go, resumes_at, spend, told};
+use turns::turn::{Access, Resume, Stage, Transition, Want};
+
+/// No command takes this number of turns.
+const TURNS: usize = 100;
 
 /// The last answer.
 pub fn said(pass: &Pass) -> Option<Said> {
@@ -36,57 +42,46 @@ fn path(hunt: &mut Hunt, ready: Option<Text>, words: &str) -> Text {
     }
 }
 
-/// The page arrives with the bytes that the device has.
-fn arrive(book: &mut Book, pass: &mut Pass, device: &mut MemDevice, ticket: InTicket)
-    requires room { 0 < pass.old.room }
-    requires own { ticket.worker ≡ pass.old.caller.worker }
+/// Reads the ticket's block.
+fn read_in(device: &mut MemDevice, access: Access, ticket: InTicket) -> Transition
+    ensures own { (worker blocks : ℕ) → IsOwn worker blocks ticket → OwnTransition worker blocks result }
 {
     let mut ticket = ticket;
-    if ticket.block() < device.blocks() {
-        // No call of this device fails.
-        let _ = ticket.read_from(device);
+    if ticket.block() >= device.blocks() {
+        return Transition::Goes(Stage::FetchFail(ticket));
     }
-    match book.call(pass, Event::Arrived(ticket)) {
-        Reply::StrangeIn(ticket) => ticket.discard(),
-        other => spend(other),
-    }
-}
-
-/// The page could not be read in.
-fn fail_to_fetch(book: &mut Book, pass: &mut Pass, ticket: InTicket)
-    requires room { 0 < pass.old.room }
-    requires own { ticket.worker ≡ pass.old.caller.worker }
-{
-    match book.call(pass, Event::FetchFailed(ticket)) {
-        Reply::StrangeIn(ticket) => ticket.discard(),
-        other => spend(other),
+    match ticket.read_from(device) {
+        Ok(()) => Transition::Goes(Stage::Arrive(access, ticket)),
+        Err(_) => Transition::Goes(Stage::FetchFail(ticket)),
     }
 }
 
-/// The page is written to the device.
-fn leave(book: &mut Book, pass: &mut Pass, device: &mut MemDevice, ticket: OutTicket)
-    requires room { 0 < pass.old.room }
-    requires own { ticket.worker ≡ pass.old.caller.worker }
+/// Writes the ticket's block.
+fn write_out(device: &mut MemDevice, resume: Resume, ticket: OutTicket) -> Transition
+    ensures own { (worker blocks : ℕ) → IsOwn worker blocks ticket → OwnTransition worker blocks result }
 {
-    if ticket.block() < device.blocks() {
-        // No call of this device fails.
-        let _ = ticket.write_to(device);
+    if ticket.block() >= device.blocks() {
+        return Transition::Goes(Stage::LeaveFail(ticket));
     }
-    match book.call(pass, Event::Left(ticket)) {
-        Reply::StrangeOut(ticket) => ticket.discard(),
-        other => spend(other),
+    match ticket.write_to(device) {
+        Ok(()) => Transition::Goes(Stage::Leave(resume, ticket)),
+        Err(_) => Transition::Goes(Stage::LeaveFail(ticket)),
     }
 }
 
-/// The page could not be written, and stays.
-fn fail_to_leave(book: &mut Book, pass: &mut Pass, ticket: OutTicket)
-    requires room { 0 < pass.old.room }
-    requires own { ticket.worker ≡ pass.old.caller.worker }
+/// One event of the book. A ticket that it gives out is the worker's, and one that comes back can be discarded.
+fn call(book: &mut Book, pass: &mut Pass, event: Event) -> Reply
+    requires room { 1 < pass.old.room }
+    requires own { (blocks : ℕ) × OwnEvent pass.old.caller.worker blocks event }
+    ensures replies { Replies event result }
+    ensures own { (blocks : ℕ) × OwnReply pass.old.caller.worker blocks result }
+    ensures handed { IsHanded result }
+    ensures worker { pass.new.caller.worker ≡ pass.old.caller.worker }
+    ensures room { 0 < pass.new.room }
 {
-    match book.call(pass, Event::LeaveFailed(ticket)) {
-        Reply::StrangeOut(ticket) => ticket.discard(),
-        other => spend(other),
-    }
+    let reply = book.call(pass, event);
+    book.history_is_right();
+    reply
 }
 
 /// Keeps the answer of the step, unless the step has to be asked again.
@@ -110,159 +105,143 @@ fn keep(hunt: &mut Hunt, told: &mut Vec<Told>, name: &'static str, reply: Said) 
     hunt.demand(kept.is_ok(), "an answer has no room");
 }
 
+/// Ends a command that has taken too many turns. The transfer of a ticket in hand fails.
+fn give_up(book: &mut Book, pass: &mut Pass, stage: Stage)
+    requires room { 0 < pass.old.room }
+    requires own { (blocks : ℕ) × OwnStage pass.old.caller.worker blocks stage }
+{
+    match stage {
+        Stage::Read(_, ticket) | Stage::Arrive(_, ticket) | Stage::FetchFail(ticket) => {
+            fail_in(book, pass, ticket);
+        }
+        Stage::Write(_, ticket) | Stage::Leave(_, ticket) | Stage::LeaveFail(ticket) => {
+            fail_out(book, pass, ticket);
+        }
+        other => let_go(other),
+    }
+}
+
+fn fail_in(book: &mut Book, pass: &mut Pass, ticket: InTicket)
+    requires room { 0 < pass.old.room }
+    requires own { ticket.worker ≡ pass.old.caller.worker }
+{
+    match book.call(pass, Event::FetchFailed(ticket)) {
+        Reply::StrangeIn(ticket) => ticket.discard(),
+        other => spend(other),
+    }
+}
+
+fn fail_out(book: &mut Book, pass: &mut Pass, ticket: OutTicket)
+    requires room { 0 < pass.old.room }
+    requires own { ticket.worker ≡ pass.old.caller.worker }
+{
+    match book.call(pass, Event::LeaveFailed(ticket)) {
+        Reply::StrangeOut(ticket) => ticket.discard(),
+        other => spend(other),
+    }
+}
+
 impl Machine {
-    /// Asks one event, and ends the transfer that it begins.
+    /// Asks what the step asks, to its end.
     pub fn ask(&mut self, hunt: &mut Hunt, step: Step) {
-        if self.pass.reserve(2).is_err() {
+        if self.pass.reserve(1).is_err() {
             hunt.demand(false, "a pass has no room");
             return;
         }
         match step.ask {
-            Ask::Group(change) => self.change_group(hunt, step.name, change),
-            Ask::Task(change) => self.change_task(hunt, step.name, change),
-            Ask::Access(task, place, op, end) => {
-                self.access(hunt, step.name, task, place, op, end)
+            Ask::Command(command) => {
+                let stage = self.first(hunt, command);
+                self.run(hunt, step.name, stage);
             }
-            Ask::Relieve(cause, end) => self.relieve(hunt, step.name, cause, end),
-            Ask::ReclaimOne(group, end) => self.reclaim_one(hunt, step.name, group, end),
+            Ask::Show(query) => self.show(hunt, step.name, query),
             Ask::MergeMarks { word, bits } => self.merge(hunt, step.name, word, bits),
         }
     }
 
-    fn access(
-        &mut self,
-        hunt: &mut Hunt,
-        name: &'static str,
-        task: TaskId,
-        place: Place,
-        op: Op,
-        end: End,
-    )
+    /// The state in which the turns of a command begin.
+    fn first(&mut self, hunt: &mut Hunt, command: Command) -> Stage
+        ensures own { (worker blocks : ℕ) → OwnStage worker blocks result }
+        ensures room { self.new.pass.room ≡ self.old.pass.room }
+    {
+        match command {
+            Command::Access(task, place, op) => Stage::Try(Access {
+                task,
+                place,
+                op,
+                fetched: false,
+            }),
+            Command::Mkdir(words) => Stage::Mkdir(path(hunt, self.path.take(), words)),
+            Command::Rmdir(group) => Stage::Rmdir(group),
+            Command::SetMax(group, max) => Stage::SetMax { group, max },
+            Command::SetGuard(group, guard, amount) => Stage::SetGuard {
+                group,
+                guard,
+                amount,
+            },
+            Command::SetOomGroup(group, flag) => Stage::SetOomGroup { group, flag },
+            Command::Reclaim(group) => Stage::Reclaim { group, left: 1 },
+            Command::Spawn(task, group) => Stage::Spawn { task, group },
+            Command::Fork(task, child) => Stage::Fork { task, child },
+            Command::Exit(task) => Stage::Exit(task),
+            Command::Free(task, page) => Stage::Free { task, page },
+            Command::Attach(task, group) => Stage::Attach { task, group },
+        }
+    }
+
+    /// One turn of a command: what it asks of the book or of the device, and what it makes of the answer.
+    fn turn(&mut self, hunt: &mut Hunt, name: &'static str, stage: Stage) -> Transition
         requires room { 1 < self.old.pass.room }
+        requires own { (blocks : ℕ) × OwnStage self.old.pass.caller.worker blocks stage }
+        ensures own { (blocks : ℕ) × OwnTransition self.new.pass.caller.worker blocks result }
+        ensures room { 0 < self.new.pass.room }
     {
-        let asked = Event::Access { task, place, op };
-        match self.book.call(&mut self.pass, asked) {
-            Reply::Fetch(ticket) => {
+        match ask(stage, self.book.watermarks(), self.book.free_frames()) {
+            Want::Call(pending, event) => {
+                let reply = call(&mut self.book, &mut self.pass, event);
                 hear(hunt, &mut self.told, name, said(&self.pass));
-                self.end_in(hunt, ticket, end);
+                match told(hunt.alloc(), pending, reply) {
+                    Ok(transition) => transition,
+                    Err(_) => {
+                        hunt.demand(false, "a text has no memory");
+                        Transition::Ends(Answer::Done)
+                    }
+                }
             }
-            other => {
-                spend(other);
-                hear(hunt, &mut self.told, name, said(&self.pass));
-            }
+            Want::Read(access, ticket) => read_in(&mut self.device, access, ticket),
+            Want::Write(resume, ticket) => write_out(&mut self.device, resume, ticket),
+            Want::End(answer) => Transition::Ends(answer),
         }
     }
 
-    fn relieve(&mut self, hunt: &mut Hunt, name: &'static str, cause: Cause, end: End)
-        requires room { 1 < self.old.pass.room }
-    {
-        match self.book.call(&mut self.pass, Event::Relieve(cause)) {
-            Reply::Out(ticket) => {
-                hear(hunt, &mut self.told, name, said(&self.pass));
-                self.end_out(hunt, ticket, end);
-            }
-            other => {
-                spend(other);
-                hear(hunt, &mut self.told, name, said(&self.pass));
-            }
-        }
-    }
-
-    fn reclaim_one(&mut self, hunt: &mut Hunt, name: &'static str, group: GroupId, end: End)
-        requires room { 1 < self.old.pass.room }
-    {
-        match self.book.call(&mut self.pass, Event::ReclaimOne(group)) {
-            Reply::Out(ticket) => {
-                hear(hunt, &mut self.told, name, said(&self.pass));
-                self.end_out(hunt, ticket, end);
-            }
-            other => {
-                spend(other);
-                hear(hunt, &mut self.told, name, said(&self.pass));
-            }
-        }
-    }
-
-    fn end_in(&mut self, hunt: &mut Hunt, ticket: InTicket, end: End)
+    /// Takes turns of a command until it ends.
+    fn run(&mut self, hunt: &mut Hunt, name: &'static str, stage: Stage)
         requires room { 0 < self.old.pass.room }
-        requires own { ticket.worker ≡ self.old.pass.caller.worker }
+        requires own { (blocks : ℕ) × OwnStage self.old.pass.caller.worker blocks stage }
     {
-        let name = match end {
-            End::Good(name) => {
-                arrive(&mut self.book, &mut self.pass, &mut self.device, ticket);
-                name
+        let mut stage = stage;
+        for _turn in 0..TURNS {
+            if self.pass.reserve(2).is_err() {
+                hunt.demand(false, "a pass has no room");
+                give_up(&mut self.book, &mut self.pass, stage);
+                return;
             }
-            End::Failed(name) => {
-                fail_to_fetch(&mut self.book, &mut self.pass, ticket);
-                name
+            match self.turn(hunt, name, stage) {
+                Transition::Goes(next) => stage = next,
+                Transition::Kills(_, resume) | Transition::Waits(resume) => {
+                    stage = resumes_at(resume);
+                }
+                Transition::Ends(_) => return,
             }
-        };
-        hear(hunt, &mut self.told, name, said(&self.pass));
+        }
+        hunt.demand(false, "a command does not end");
+        give_up(&mut self.book, &mut self.pass, stage);
     }
 
-    fn end_out(&mut self, hunt: &mut Hunt, ticket: OutTicket, end: End)
-        requires room { 0 < self.old.pass.room }
-        requires own { ticket.worker ≡ self.old.pass.caller.worker }
-    {
-        let name = match end {
-            End::Good(name) => {
-                leave(&mut self.book, &mut self.pass, &mut self.device, ticket);
-                name
-            }
-            End::Failed(name) => {
-                fail_to_leave(&mut self.book, &mut self.pass, ticket);
-                name
-            }
-        };
-        hear(hunt, &mut self.told, name, said(&self.pass));
-    }
-
-    fn change_group(&mut self, hunt: &mut Hunt, name: &'static str, change: GroupChange)
+    /// The pass keeps what is shown.
+    fn show(&mut self, hunt: &mut Hunt, name: &'static str, query: Query)
         requires room { 0 < self.old.pass.room }
     {
-        match change {
-            GroupChange::Mkdir(words) => {
-                let text = path(hunt, self.path.take(), words);
-                spend(self.book.call(&mut self.pass, Event::Mkdir(text)));
-            }
-            GroupChange::Rmdir(group) => {
-                spend(self.book.call(&mut self.pass, Event::Rmdir(group)));
-            }
-            GroupChange::Set { group, setting } => {
-                let asked = Event::Set { group, setting };
-                spend(self.book.call(&mut self.pass, asked));
-            }
-            GroupChange::Show(query) => {
-                spend(self.book.call(&mut self.pass, Event::Show(query)));
-            }
-        }
-        hear(hunt, &mut self.told, name, said(&self.pass));
-    }
-
-    fn change_task(&mut self, hunt: &mut Hunt, name: &'static str, change: TaskChange)
-        requires room { 0 < self.old.pass.room }
-    {
-        match change {
-            TaskChange::Spawn { task, group } => {
-                let asked = Event::Spawn { task, group };
-                spend(self.book.call(&mut self.pass, asked));
-            }
-            TaskChange::Fork { task, child } => {
-                let asked = Event::Fork { task, child };
-                spend(self.book.call(&mut self.pass, asked));
-            }
-            TaskChange::Exit(task) => {
-                spend(self.book.call(&mut self.pass, Event::Exit(task)));
-            }
-            TaskChange::Free { task, page } => {
-                let asked = Event::Free { task, page };
-                spend(self.book.call(&mut self.pass, asked));
-            }
-            TaskChange::Attach { task, group } => {
-                let asked = Event::Attach { task, group };
-                spend(self.book.call(&mut self.pass, asked));
-            }
-        }
+        spend(self.book.call(&mut self.pass, Event::Show(query)));
         hear(hunt, &mut self.told, name, said(&self.pass));
     }
 

@@ -1,126 +1,97 @@
-//! What a book is asked, step by step, as plain data: so it can be asked again.
+//! What a machine is asked, step by step, as plain data: so it can be asked again.
 
-use machine::event::{Cause, Op, Place, Query, Setting};
+use machine::amount::Amount;
+use machine::event::{Op, Place, Query};
 use machine::id::{GroupId, TaskId};
+use machine::record::{Guard, OomGroup};
 
-/// How the transfer of a step ends, and the name of its end.
+/// A command, in the state in which its turns begin: its group is found, and its texts are read.
 #[derive(Clone, Copy)]
-pub enum End {
-    /// The device's block is read or written.
-    Good(&'static str),
-    /// It can't be read or written.
-    Failed(&'static str),
-}
-
-/// An event of groups.
-#[derive(Clone, Copy)]
-pub enum GroupChange {
+pub enum Command {
+    /// An access of a task to the first byte of a page.
+    Access(TaskId, Place, Op),
     Mkdir(&'static str),
     Rmdir(GroupId),
-    Set { group: GroupId, setting: Setting },
-    Show(Query),
-}
-
-/// An event of tasks that gives out no ticket.
-#[derive(Clone, Copy)]
-pub enum TaskChange {
-    Spawn { task: TaskId, group: GroupId },
-    Fork { task: TaskId, child: TaskId },
+    SetMax(GroupId, Amount),
+    SetGuard(GroupId, Guard, Amount),
+    SetOomGroup(GroupId, OomGroup),
+    /// Reclaims one page of the group or below it.
+    Reclaim(GroupId),
+    Spawn(TaskId, GroupId),
+    Fork(TaskId, TaskId),
     Exit(TaskId),
-    Free { task: TaskId, page: u32 },
-    Attach { task: TaskId, group: GroupId },
+    Free(TaskId, u32),
+    Attach(TaskId, GroupId),
 }
 
-/// An event other than the end of a transfer.
+/// What one step asks.
 #[derive(Clone, Copy)]
 pub enum Ask {
-    Group(GroupChange),
-    Task(TaskChange),
-    /// An access of a task to the first byte of a page.
-    Access(TaskId, Place, Op, End),
-    Relieve(Cause, End),
-    ReclaimOne(GroupId, End),
+    /// A command, from its first turn to its last.
+    Command(Command),
+    /// The numbers of a control file. A command would also make their text, which needs memory.
+    Show(Query),
+    /// Pages in these frames of a word were used. No command asks this.
     MergeMarks { word: u32, bits: u64 },
 }
 
-/// An event, with the name that reports give it.
+/// What is asked, with the name that reports give it.
 #[derive(Clone, Copy)]
 pub struct Step {
     pub name: &'static str,
     pub ask: Ask,
 }
 
-pub fn of_group(name: &'static str, change: GroupChange) -> Step {
+pub fn asks(name: &'static str, command: Command) -> Step {
     Step {
         name,
-        ask: Ask::Group(change),
+        ask: Ask::Command(command),
     }
 }
 
-pub fn of_task(name: &'static str, change: TaskChange) -> Step {
-    Step {
-        name,
-        ask: Ask::Task(change),
-    }
-}
-
-/// An access to the first byte of a task's virtual page. If the page has to be read in, it arrives.
+/// An access to the first byte of a task's virtual page.
 pub fn touch(name: &'static str, task: u32, page: u32, op: Op) -> Step {
     let place = Place::Virtual { page, offset: 0 };
-    Step {
-        name,
-        ask: Ask::Access(TaskId(task), place, op, End::Good("arrived")),
-    }
+    asks(name, Command::Access(TaskId(task), place, op))
 }
 
 /// An access of task 2 to the first byte of a page of the file.
-pub fn reach(name: &'static str, page: u32, op: Op, end: End) -> Step {
+pub fn reach(name: &'static str, page: u32, op: Op) -> Step {
     let place = Place::File {
         file: 0,
         page,
         offset: 0,
     };
-    Step {
-        name,
-        ask: Ask::Access(TaskId(2), place, op, end),
-    }
+    asks(name, Command::Access(TaskId(2), place, op))
 }
 
-/// Reclaims a page of any group.
-pub fn reclaim_one(end: End) -> Step {
-    Step {
-        name: "reclaim one",
-        ask: Ask::ReclaimOne(GroupId::ROOT, end),
-    }
-}
-
-/// Asks for room.
-pub fn relieve(name: &'static str, cause: Cause) -> Step {
-    Step {
-        name,
-        ask: Ask::Relieve(cause, End::Good("left")),
-    }
+/// Reclaims a page of the group or below it.
+pub fn reclaim(group: u32) -> Step {
+    asks("reclaim one", Command::Reclaim(GroupId(group)))
 }
 
 pub fn mkdir(name: &'static str, path: &'static str) -> Step {
-    of_group(name, GroupChange::Mkdir(path))
+    asks(name, Command::Mkdir(path))
 }
 
-pub fn set(name: &'static str, group: u32, setting: Setting) -> Step {
-    let group = GroupId(group);
-    of_group(name, GroupChange::Set { group, setting })
+pub fn set_max(name: &'static str, group: u32, max: u64) -> Step {
+    asks(name, Command::SetMax(GroupId(group), Amount::Pages(max)))
 }
 
 pub fn spawn(name: &'static str, task: u32, group: u32) -> Step {
-    let task = TaskId(task);
-    let group = GroupId(group);
-    of_task(name, TaskChange::Spawn { task, group })
+    asks(name, Command::Spawn(TaskId(task), GroupId(group)))
 }
 
 pub fn fork(name: &'static str, task: u32, child: u32) -> Step {
-    let task = TaskId(task);
-    let child = TaskId(child);
-    of_task(name, TaskChange::Fork { task, child })
+    asks(name, Command::Fork(TaskId(task), TaskId(child)))
+}
+
+/// Shows a control file.
+pub fn show(name: &'static str, query: Query) -> Step {
+    Step {
+        name,
+        ask: Ask::Show(query),
+    }
 }
 
 /// Pages in these frames of a word were used.

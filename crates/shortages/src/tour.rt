@@ -1,12 +1,11 @@
-//! The steps of the walk: how the machine is set up, each event, and what is asked at the end. The events that may
+//! The steps of the walk: how the machine is set up, each event, and what is asked at the end. The commands that may
 //! need memory are asked in a state in which they do.
 
 use crate::step::{
-    Ask, End, GroupChange, Step, TaskChange, fork, merge, mkdir, of_group, of_task, reach,
-    reclaim_one, relieve, set, spawn, touch,
+    Command, Step, asks, fork, merge, mkdir, reach, reclaim, set_max, show, spawn, touch,
 };
 use machine::amount::Amount;
-use machine::event::{Cause, Op, Query, Setting};
+use machine::event::{Op, Query};
 use machine::id::{GroupId, TaskId};
 use machine::record::{Guard, OomGroup};
 use std::alloc::{AllocError, Global};
@@ -46,10 +45,6 @@ impl Plan {
 
 /// Three tasks; two pages of task 1 are on swap.
 fn few() -> [Step; 13] {
-    let from_a = Step {
-        name: "reclaim one",
-        ask: Ask::ReclaimOne(GroupId(1), End::Good("left")),
-    };
     [
         mkdir("mkdir", "/a"),
         mkdir("mkdir", "/b"),
@@ -62,8 +57,8 @@ fn few() -> [Step; 13] {
         touch("write", 1, 2, Op::Write(12)),
         touch("write", 2, 0, Op::Write(20)),
         touch("write", 3, 0, Op::Write(30)),
-        from_a,
-        from_a,
+        reclaim(1),
+        reclaim(1),
     ]
 }
 
@@ -82,20 +77,16 @@ fn many() -> [Step; 9] {
     ]
 }
 
-/// Events that may need memory. The numbers of the tasks are beyond all tables.
+/// Commands that may need memory. The numbers of the tasks are beyond all tables. The device cannot read the page that
+/// is to be written.
 fn wanting() -> [Step; 6] {
     [
         mkdir("mkdir", "/d"),
         spawn("spawn", 9, 4),
         fork("fork", 1, 40),
         touch("read from swap", 1, 0, Op::Read),
-        reach("read a file", 0, Op::Read, End::Good("arrived")),
-        reach(
-            "write a file",
-            1,
-            Op::Write(70),
-            End::Failed("fetch failed"),
-        ),
+        reach("read a file", 0, Op::Read),
+        reach("write a file", 1, Op::Write(70)),
     ]
 }
 
@@ -103,12 +94,7 @@ fn wanting() -> [Step; 6] {
 fn touching() -> [Step; 11] {
     [
         touch("read what came from swap", 1, 0, Op::Read),
-        reach(
-            "read what came of the file",
-            0,
-            Op::Read,
-            End::Good("arrived"),
-        ),
+        reach("read what came of the file", 0, Op::Read),
         touch("make a page", 9, 0, Op::Write(90)),
         touch("copy a page", 40, 2, Op::Write(42)),
         touch("read the copy", 40, 2, Op::Read),
@@ -116,65 +102,45 @@ fn touching() -> [Step; 11] {
         touch("write to a page", 3, 0, Op::Write(31)),
         touch("read it", 3, 0, Op::Read),
         touch("read nothing", 3, 7, Op::Read),
-        reach("write to a file", 0, Op::Write(71), End::Good("arrived")),
+        reach("write to a file", 0, Op::Write(71)),
         merge("merge marks", 0, 255),
     ]
 }
 
 /// Changes of groups, and what is shown of them.
 fn grouped() -> [Step; 10] {
-    let max = Setting::Max(Amount::Pages(5));
-    let min = Setting::Guard(Guard::Min, Amount::Pages(1));
-    let low = Setting::Guard(Guard::Low, Amount::Pages(2));
-    let flag = Setting::OomGroup(OomGroup::Whole);
+    let min = Command::SetGuard(GroupId(2), Guard::Min, Amount::Pages(1));
+    let low = Command::SetGuard(GroupId(2), Guard::Low, Amount::Pages(2));
+    let flag = Command::SetOomGroup(GroupId(3), OomGroup::Whole);
     [
-        of_task(
-            "attach",
-            TaskChange::Attach {
-                task: TaskId(9),
-                group: GroupId(3),
-            },
-        ),
-        of_group("rmdir", GroupChange::Rmdir(GroupId(4))),
-        set("set max", 3, max),
-        set("set min", 2, min),
-        set("set low", 2, low),
-        set("set the flag", 3, flag),
-        of_group(
-            "show current",
-            GroupChange::Show(Query::Current(GroupId(1))),
-        ),
-        of_group("show max", GroupChange::Show(Query::Max(GroupId(3)))),
-        of_group(
-            "show the flag",
-            GroupChange::Show(Query::OomGroup(GroupId(3))),
-        ),
-        of_group("show stat", GroupChange::Show(Query::Stat(GroupId(1)))),
+        asks("attach", Command::Attach(TaskId(9), GroupId(3))),
+        asks("rmdir", Command::Rmdir(GroupId(4))),
+        set_max("set max", 3, 5),
+        asks("set min", min),
+        asks("set low", low),
+        asks("set the flag", flag),
+        show("show current", Query::Current(GroupId(1))),
+        show("show max", Query::Max(GroupId(3))),
+        show("show the flag", Query::OomGroup(GroupId(3))),
+        show("show stat", Query::Stat(GroupId(1))),
     ]
 }
 
-/// Pages are evicted, a task is killed, another ends.
+/// Pages are evicted, a task is killed, another ends. The device cannot write the first page that is to be evicted.
 fn leaving() -> [Step; 12] {
-    let lower = Cause::Lower(GroupId(1));
     [
-        reclaim_one(End::Failed("leave failed")),
-        reclaim_one(End::Good("left")),
-        set("set max to nothing", 1, Setting::Max(Amount::Pages(0))),
+        reclaim(0),
+        reclaim(0),
+        set_max("set max to its pages", 1, 2),
         touch("write over the limit", 40, 5, Op::Write(45)),
-        relieve("relieve", lower),
-        relieve("relieve once more", lower),
-        touch("read when killed", 1, 2, Op::Read),
-        relieve("relieve after a kill", lower),
-        relieve("relieve where there is room", lower),
-        relieve("relieve of frames", Cause::Frame),
-        of_task(
-            "free",
-            TaskChange::Free {
-                task: TaskId(2),
-                page: 0,
-            },
-        ),
-        of_task("exit", TaskChange::Exit(TaskId(3))),
+        touch("fill the frames", 2, 1, Op::Write(21)),
+        touch("fill the frames", 2, 2, Op::Write(22)),
+        touch("write without a frame", 2, 3, Op::Write(23)),
+        set_max("set max to nothing", 1, 0),
+        touch("read when killed", 40, 2, Op::Read),
+        set_max("set max to more", 1, 8),
+        asks("free", Command::Free(TaskId(2), 0)),
+        asks("exit", Command::Exit(TaskId(3))),
     ]
 }
 
@@ -192,7 +158,7 @@ pub fn end(alloc: Global) -> Result<Vec<Step>, AllocError> {
     read_all(&mut steps)?;
     read_all(&mut steps)?;
     for _turn in 0..6 {
-        steps.push(reclaim_one(End::Good("left")))?;
+        steps.push(reclaim(0))?;
     }
     read_all(&mut steps)?;
     Ok(steps)
@@ -205,7 +171,7 @@ fn read_all(steps: &mut Vec<Step>) -> Result<(), AllocError> {
         }
     }
     for page in 0..2 {
-        steps.push(reach("read a file", page, Op::Read, End::Good("arrived")))?;
+        steps.push(reach("read a file", page, Op::Read))?;
     }
     Ok(())
 }

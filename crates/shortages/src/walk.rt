@@ -21,6 +21,12 @@ const ALL_ROOM: u32 = 20_000;
 /// How many answers are kept.
 const ANSWERS: usize = 400;
 
+/// The reads of the device that fail, counted from 1: that of the file's second page, for the tour's write to it.
+const READ_FAULTS: [u64; 1] = [3];
+
+/// The writes that fail: that of the first page that the tour evicts, after two at the set-up.
+const WRITE_FAULTS: [u64; 1] = [3];
+
 /// A book, with the pass that asks it, and its device.
 ///
 /// [`Machine::close`] must spend it.
@@ -54,7 +60,7 @@ impl Parts {
     fn new(alloc: Global, plan: Plan) -> Result<Parts, AllocError> {
         Ok(Parts {
             config: config(alloc)?,
-            device: MemDevice::new(alloc, 5, &[], &[])?,
+            device: MemDevice::new(alloc, 5, &READ_FAULTS, &WRITE_FAULTS)?,
             path: text(alloc, "/d")?,
             start: plan.start(alloc)?,
             steps: plan.steps(alloc)?,
@@ -207,7 +213,7 @@ impl Machine {
         }
     }
 
-    /// Takes one step. If memory is refused, everything has to be as it was before, and the event is asked again.
+    /// Takes one step. If memory is refused, everything has to be as it was before, and the step is asked again.
     pub fn take(&mut self, hunt: &mut Hunt, step: Step) {
         if self.pass.reserve(ROOM).is_err() {
             hunt.demand(false, "a pass has no room");
