@@ -13,13 +13,13 @@ mod drawn;
 #[cfg(test)]
 mod explanations;
 #[cfg(test)]
+mod faulty_scripts;
+#[cfg(test)]
 mod generations;
 #[cfg(test)]
 mod reclaim_turns;
 #[cfg(test)]
 mod removal;
-#[cfg(test)]
-mod script_faults;
 #[cfg(test)]
 mod script_forms;
 #[cfg(test)]
