@@ -9,7 +9,7 @@ use std::io::{Read, Write};
 use std::rt::Files;
 use std::thread;
 use std::thread::{Threads, available_parallelism};
-use subcommands::{Options, read_and_check, read_script, status_of};
+use subcommands::{Fault, Options, read_and_check, read_script};
 
 /// How many files are checked at a time if the number of processors is unknown.
 const SOME_PROCESSORS: usize = 4;
@@ -61,9 +61,7 @@ fn read_text<I: Read, E: Write>(
     match read_script(alloc, text) {
         Ok(bytes) => Some(bytes),
         Err(fault) => {
-            // The status reports the failure even if its line can't be written.
-            let _ = write!(err, "{name}: ");
-            let _ = status_of(Err(fault), err);
+            tell_fault(name, &fault, err);
             None
         }
     }
@@ -148,6 +146,15 @@ fn check_apart(alloc: Global, options: Options, text: &Text<'_>) -> Checked {
     Checked { out, err, status }
 }
 
+/// Writes why a file was not checked, or why what its check wrote could not be written.
+fn tell_fault<E: Write>(name: &str, fault: &Fault, err: &mut E) {
+    if !fault.is_silent() {
+        // The status reports the failure even if its line can't be written.
+        let _ = write!(err, "{name}: ");
+        let _ = fault.report(err);
+    }
+}
+
 /// Writes what the check of a file wrote. The result says whether the check succeeded, and all of that was written.
 fn hand_on<O: Write, E: Write>(
     text: &Text<'_>,
@@ -155,10 +162,14 @@ fn hand_on<O: Write, E: Write>(
     out: &mut O,
     err: &mut E,
 ) -> bool {
-    if out.write_all(&checked.out).is_err() || err.write_all(&text.err).is_err() {
+    if let Err(error) = out.write_all(&checked.out) {
+        tell_fault(text.file, &Fault::Unwritable(error), err);
         return false;
     }
-    err.write_all(&checked.err).is_ok() && checked.status == 0
+    if err.write_all(&text.err).is_err() || err.write_all(&checked.err).is_err() {
+        return false;
+    }
+    checked.status == 0
 }
 
 /// Checks files one after another. The result says whether each check succeeded.
@@ -204,8 +215,8 @@ fn check_together<R: Files + AllocGlobal + Threads + Sync, O: Write, E: Write>(
     Some(all_met)
 }
 
-/// Checks the scripts and scenarios of these files, whatever the results of the others: as many at a time as there are
-/// processors. What is written comes in the order of the files.
+/// Checks the scripts and scenarios of these files, whatever the results of the others. Each processor checks one at a time.
+/// What is written comes in the order of the files.
 pub fn check_all<R: Files + AllocGlobal + Threads + Sync, I: Read, O: Write, E: Write>(
     rt: &R,
     options: Options,
