@@ -35,6 +35,7 @@ struct memcgrun_proved_explore_asked {
     uint32_t turns;
     bool as_linux;
     bool every;
+    bool wait;
 };
 
 /* They answer a status of memcgrun.h. */
@@ -151,7 +152,7 @@ static const struct layout script_layout = {"struct memcgrun_options", offsetof(
                                             offsetof(struct memcgrun_options, reserved)};
 static const struct layout scenario_layout = {"struct memcgrun_scenario_options", offsetof(struct memcgrun_scenario_options, reserved),
                                               offsetof(struct memcgrun_scenario_options, reserved)};
-static const struct layout explore_layout = {"struct memcgrun_explore_options", offsetof(struct memcgrun_explore_options, reserved),
+static const struct layout explore_layout = {"struct memcgrun_explore_options", offsetof(struct memcgrun_explore_options, wait),
                                              offsetof(struct memcgrun_explore_options, reserved)};
 
 /* Reads the bytes that the caller's version of the options has, which begin with their number. Those that it lacks are
@@ -221,19 +222,21 @@ static bool read_scenario_options(const struct run *run, struct memcgrun_scenari
 static bool read_explore_options(const struct run *run, struct memcgrun_proved_explore_asked *asked, struct line *line)
 {
     struct memcgrun_explore_options options = {0};
-    uint8_t as_linux, every;
+    uint8_t as_linux, every, wait;
     if (run->explore_options && !copy_options(run->explore_options, &options, &explore_layout, line))
         return false;
     as_linux = ((const uint8_t *)&options)[offsetof(struct memcgrun_explore_options, as_linux)];
     every = ((const uint8_t *)&options)[offsetof(struct memcgrun_explore_options, every)];
-    if (as_linux > 1 || every > 1)
-        return refuse(line, as_linux > 1 ? "as_linux" : "every", " is neither 0 nor 1", "");
+    wait = ((const uint8_t *)&options)[offsetof(struct memcgrun_explore_options, wait)];
+    if (as_linux > 1 || every > 1 || wait > 1)
+        return refuse(line, as_linux > 1 ? "as_linux" : every > 1 ? "every" : "wait", " is neither 0 nor 1", "");
     if (options.seed && !options.sample)
         return refuse(line, "seed", " is set without a sample", "");
     if (options.orders && options.sample)
         return refuse(line, "orders", " is set with a sample", "");
     *asked = (struct memcgrun_proved_explore_asked){options.orders ? options.orders : USUAL_ORDERS, options.sample, options.seed,
-                                                    options.show, options.turns ? options.turns : USUAL_TURNS, as_linux, every};
+                                                    options.show, options.turns ? options.turns : USUAL_TURNS, as_linux, every,
+                                                    wait};
     return true;
 }
 

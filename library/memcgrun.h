@@ -165,11 +165,12 @@ struct memcgrun_explore_options {
     uint32_t turns;       /* the most turns of an order (--turns); 0 means 1,000 */
     bool as_linux;        /* place pages that are read in as Linux does, instead of by memcgrun's own rule (--as-linux) */
     bool every;           /* run also the orders in which other turns come before a call of the device (--every) */
-    uint8_t reserved[10]; /* 0 */
+    bool wait;            /* leave out the orders in which a command of the work is answered `busy` (--wait) */
+    uint8_t reserved[9];  /* 0 */
 };
 
 #define MEMCGRUN_EXPLORE_OPTIONS_INIT \
-    {sizeof(struct memcgrun_explore_options), 0, 0, 0, 0, 0, false, false, {0, 0, 0, 0, 0, 0, 0, 0, 0, 0}}
+    {sizeof(struct memcgrun_explore_options), 0, 0, 0, 0, 0, false, false, false, {0, 0, 0, 0, 0, 0, 0, 0, 0}}
 
 /* Runs a script's work in the orders of its turns in which calls of the device come first, in every order, or in those
  * of a sample, as `memcgrun explore` does. Every order has an outcome of one with calls of the device first. out gets

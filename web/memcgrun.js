@@ -41,9 +41,9 @@ class Memcgrun {
   }
 
   // What `memcgrun explore` prints of a script, in the same form: all that can happen in its work. orders, sample, seed,
-  // show and turns are numbers. asLinux and every are true or false.
+  // show and turns are numbers. asLinux, every and wait are true or false.
   explore(script, { orders = 0, sample = 0, seed = 0, show = 0, turns = 0, ...asked } = {}) {
-    const flags = flagsOf(asked, { asLinux: 1, every: 2 });
+    const flags = flagsOf(asked, { asLinux: 1, every: 2, wait: 4 });
     return this.#call('page_explore', script, () => [...[orders, sample, seed, show].map(BigInt), turns, flags]);
   }
 

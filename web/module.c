@@ -5,7 +5,7 @@
 /* The bits of flags, as memcgrun.js sets them. */
 enum { LABELS = 1, STRICT = 2, AS_LINUX = 4, EXPLAIN = 8, QUIET = 16, SUMMARY = 32 };
 enum { GO_ON = 1 };
-enum { EXPLORE_AS_LINUX = 1, EVERY = 2 };
+enum { EXPLORE_AS_LINUX = 1, EVERY = 2, WAIT = 4 };
 
 static struct memcgrun_options options_of(uint32_t turns, uint32_t flags)
 {
@@ -66,5 +66,6 @@ int page_explore(const uint8_t *script, size_t len, uint64_t orders, uint64_t sa
     options.turns = turns;
     options.as_linux = flags & EXPLORE_AS_LINUX;
     options.every = flags & EVERY;
+    options.wait = flags & WAIT;
     return (int)memcgrun_explore(script, len, &options, &texts[0], &texts[1]);
 }

@@ -111,6 +111,7 @@ static struct memcgrun_explore_options explore_options_of(const char *call)
     options.turns = number_of(call, ",--turns=");
     options.as_linux = has(call, ",--as-linux");
     options.every = has(call, ",--every");
+    options.wait = has(call, ",--wait");
     return options;
 }
 

@@ -409,6 +409,8 @@ static void check_scenario_taken(void)
 static const char three[] = "group /a\nset /a memory.max 8192\ntask 1 /a\ntask 2 /a\ntask 3 /a\ngo\n1 write 0 0 1\n2 write 0 0 2\n3 write 0 0 3\n"
                             "go\ncat /a memory.current\n";
 static const char six[] = "6 orders (device calls first), of 5 turns, have 2 outcomes\noutcome 1: 4 orders\nkilled 1\n8192\noutcome 2: 2 orders\nkilled 2\n8192\n";
+static const char waiting_six[] = "6 orders (device calls first), of 5 turns; 6 orders without `busy` have 2 outcomes\noutcome 1: 4 orders\nkilled 1\n8192\n"
+                                  "outcome 2: 2 orders\nkilled 2\n8192\n";
 static const char all_six[] = "6 orders, of 5 turns, have 2 outcomes\noutcome 1: 4 orders\nkilled 1\n8192\noutcome 2: 2 orders\nkilled 2\n8192\n";
 
 static void check_explored(void)
@@ -423,6 +425,9 @@ static void check_explored(void)
     options = usual;
     options.every = true;
     EXPECT(EXPLORED, three, &options, MEMCGRUN_OK, all_six, "");
+    options = usual;
+    options.wait = true;
+    EXPECT(EXPLORED, three, &options, MEMCGRUN_OK, waiting_six, "");
     options = usual;
     options.orders = 6;
     EXPECT(EXPLORED, three, &options, MEMCGRUN_OK, six, "");
@@ -478,7 +483,7 @@ static void check_explore_options(void)
 {
     static const char not_a_size[] = "options: size is not sizeof(struct memcgrun_explore_options)\n";
     static const char newer[] = "options: a member is set that version " MEMCGRUN_VERSION " does not have\n";
-    static const size_t least = offsetof(struct memcgrun_explore_options, reserved);
+    static const size_t least = offsetof(struct memcgrun_explore_options, wait), reserved = offsetof(struct memcgrun_explore_options, reserved);
     static union explore_versioned given;
     struct memcgrun_explore_options usual = MEMCGRUN_EXPLORE_OPTIONS_INIT;
     for (size_t size = 0; size <= 4097; size += size < 80 ? 1 : 4017) {
@@ -490,7 +495,7 @@ static void check_explore_options(void)
         else
             EXPECT(EXPLORED, three, &given, MEMCGRUN_OK, six, "");
     }
-    for (size_t at = least; at < sizeof usual; at++) {
+    for (size_t at = reserved; at < sizeof usual; at++) {
         memset(&given, 0, sizeof given);
         given.options = usual;
         given.bytes[at] = 1;
@@ -502,6 +507,9 @@ static void check_explore_options(void)
     given.options = usual;
     given.bytes[offsetof(struct memcgrun_explore_options, every)] = 2;
     EXPECT(EXPLORED, three, &given, MEMCGRUN_BAD_OPTIONS, "", "options: every is neither 0 nor 1\n");
+    given.options = usual;
+    given.bytes[offsetof(struct memcgrun_explore_options, wait)] = 2;
+    EXPECT(EXPLORED, three, &given, MEMCGRUN_BAD_OPTIONS, "", "options: wait is neither 0 nor 1\n");
     given.options = usual;
     given.options.seed = 1;
     EXPECT(EXPLORED, three, &given, MEMCGRUN_BAD_OPTIONS, "", "options: seed is set without a sample\n");

@@ -1,6 +1,6 @@
 //! The words of `memcgrun explore`.
 
-use crate::forms::{EVERY, EXPECT_ONE, ORDERS, SAMPLE, SEED, SHOW, TURNS};
+use crate::forms::{EVERY, EXPECT_ONE, ORDERS, SAMPLE, SEED, SHOW, TURNS, WAIT};
 use crate::options::FILE;
 use crate::words::placement_of;
 use clap::ArgMatches;
@@ -25,6 +25,8 @@ pub struct Exploration<'a> {
     pub show: Option<u64>,
     /// A second outcome is a failure.
     pub expects_one: bool,
+    /// Commands wait for the end of a transfer.
+    pub waits: bool,
 }
 
 /// What the words of the subcommand ask for.
@@ -39,5 +41,6 @@ pub fn exploration_of<'a>(explore: &ArgMatches<'a>) -> Exploration<'a> {
         placement: placement_of(explore),
         show: explore.get_one(SHOW),
         expects_one: explore.get_flag(EXPECT_ONE),
+        waits: explore.get_flag(WAIT),
     }
 }

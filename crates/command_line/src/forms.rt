@@ -58,6 +58,8 @@ pub const UNBUFFERED: &str = "unbuffered";
 
 pub const VARY: &str = "vary";
 
+pub const WAIT: &str = "wait";
+
 const AS_LINUX_ROW: Row = Row {
     name: AS_LINUX,
     value: Value::Absent,
@@ -256,6 +258,12 @@ const EXPLORE: &[Row] = &[
         value: Value::Number("N"),
         beside: Beside::Any,
         help: "Maximum number of turns of an order [default: 1000]",
+    },
+    Row {
+        name: WAIT,
+        value: Value::Absent,
+        beside: Beside::Any,
+        help: "Leave out the orders in which a command of the work is answered `busy`, as if it waited",
     },
 ];
 

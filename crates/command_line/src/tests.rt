@@ -355,7 +355,8 @@ fn no_script_is_named_as_an_option(rt: HostRuntime) -> Result<(), Fail> {
 
 #[test]
 fn an_exploration_is_asked_for(rt: HostRuntime) -> Result<(), Fail> {
-    let line = "memcgrun explore --show 2 --orders 7 a --turns 9 --expect-one --as-linux --every";
+    let line =
+        "memcgrun explore --show 2 --orders 7 a --turns 9 --expect-one --as-linux --every --wait";
     let words = words_of(rt.alloc(), line)?;
     let Ok(Asked::Explore(exploration)) = read_words(rt.alloc(), &words) else {
         return Err("refused".into());
@@ -363,6 +364,7 @@ fn an_exploration_is_asked_for(rt: HostRuntime) -> Result<(), Fail> {
     assert_eq!(rt; exploration.file, "a");
     assert!(rt; exploration.expects_one);
     assert!(rt; exploration.every);
+    assert!(rt; exploration.waits);
     assert_eq!(rt; exploration.orders, Some(7));
     assert_eq!(rt; exploration.turns, Some(9));
     assert_eq!(rt; exploration.placement, Placement::Linux);
@@ -373,6 +375,7 @@ fn an_exploration_is_asked_for(rt: HostRuntime) -> Result<(), Fail> {
     };
     assert!(rt; !exploration.expects_one);
     assert!(rt; !exploration.every);
+    assert!(rt; !exploration.waits);
     assert_eq!(rt; exploration.orders, None);
     assert_eq!(rt; exploration.turns, None);
     assert_eq!(rt; exploration.placement, Placement::Own);

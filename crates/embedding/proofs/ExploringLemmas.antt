@@ -1,18 +1,19 @@
 -- What is said of a script that can't be explored.
-use Rattle.std.proofs.Common.{◌≡◌, ◌⊎◌, inl, inr, ◌≤◌, ◌-◌, ℕ, List, length, Some, None, codes, sym, subst, ◌∙◌, arith}
+use Rattle.std.proofs.Common.{◌≡◌, ◌⊎◌, inl, inr, ◌≤◌, ◌-◌, ℕ, List, [], length, Some, None, codes, sym, subst, ◌∙◌, arith}
 use Rattle.std.specs.Str.Lines.{lines}
 use Rattle.machine.specs.declared.limit.TheConstants.{SCRIPT_BYTES}
 use Rattle.scripts.specs.declared.mode.Mode.TheVariants.{Schedule}
 use Rattle.scripts.specs.Script.{IsFaultless}
 use Rattle.printer.specs.declared.options.Options.{Options}
 use Rattle.script_faults.specs.declared.fault.Fault.TheVariants as scripts_fault
-use Rattle.explore.specs.declared.fault.Fault.{Fault}
-use Rattle.explore.specs.declared.fault.Fault.TheVariants as fault
+use Rattle.division.specs.declared.fault.Fault.{Fault}
+use Rattle.division.specs.declared.fault.Fault.TheVariants as fault
 use Rattle.explore.specs.declared.asked.Asked.{Asked}
-use Rattle.explore.specs.Explores.{Explains}
+use Rattle.explore.specs.declared.report.Verdict.{Verdict}
+use Rattle.explore.specs.Explores.{Explores, Explains}
 use Rattle.embedding.specs.Calls.{IsUnsound, Tells}
 use Rattle.embedding.specs.declared.status.TheConstants.{OK, BAD_SCRIPT, NO_MEMORY, DIFFERS, BAD_OPTIONS}
-use Rattle.embedding.specs.Exploring.{status_for, IsReasoned, IsToldOf}
+use Rattle.embedding.specs.Exploring.{IsPart, status_for, IsReasoned, IsToldOf}
 
 -- a script without a faulty line that is not too long can be run
 is_sound : (script : List ℕ) → length script ≤ SCRIPT_BYTES → IsFaultless Schedule (lines script) → IsUnsound script → ⊥
@@ -55,6 +56,20 @@ never_options n (inr (inr e)) bad = omega (arith, e, bad)
 pub never_reasoned : (asked : Asked) (script : List ℕ) (n n' : ℕ) → n' ≡ n → (n ≡ OK) ⊎ (n ≡ NO_MEMORY) ⊎ (n ≡ DIFFERS) → (n' ≡ BAD_SCRIPT) ⊎ (n' ≡ BAD_OPTIONS) → IsReasoned asked script n'
 never_reasoned asked script n n' same known (inl bad) = absurd (never_bad n known (sym same ∙ bad))
 never_reasoned asked script n n' same known (inr bad) = absurd (never_options n known (sym same ∙ bad))
+
+-- not all orders were run
+pub in_part : (asked given : Asked) (script : List ℕ) (verdict : Verdict) (n n' : ℕ) (old new : List ℕ) → given ≡ asked → n' ≡ n → (n ≡ DIFFERS → IsPart verdict) → old ≡ [] → Explores given script verdict (Some old) (Some new)
+    → n' ≡ DIFFERS → (verdict : Verdict) × IsPart verdict × Explores asked script verdict (Some []) (Some new)
+in_part asked given script verdict n n' old new is_asked same part empty explores differs =
+    let P : Asked → Type 0 = λ (a : Asked). Explores a script verdict (Some []) (Some new) in
+    let Q : List ℕ → Type 0 = λ (l : List ℕ). Explores given script verdict (Some l) (Some new) in
+    (verdict, part (sym same ∙ differs), subst P is_asked (subst Q empty explores))
+
+-- the status of a fault does not say so
+pub never_in_part : (n n' : ℕ) → n' ≡ n → (n ≡ BAD_SCRIPT) ⊎ (n ≡ NO_MEMORY) ⊎ (n ≡ BAD_OPTIONS) → n' ≡ DIFFERS → ⊥
+never_in_part n n' same (inl e) differs = omega (arith, same, e, differs)
+never_in_part n n' same (inr (inl e)) differs = omega (arith, same, e, differs)
+never_in_part n n' same (inr (inr e)) differs = omega (arith, same, e, differs)
 
 -- the status of a fault is that of a true reason, unless memory ran out
 pub reasoned : (asked given : Asked) (script : List ℕ) (n n' : ℕ) (why : Fault) → given ≡ asked → n' ≡ n → (n ≡ status_for why) ⊎ (n ≡ NO_MEMORY) → Explains given script why → (n' ≡ BAD_SCRIPT) ⊎ (n' ≡ BAD_OPTIONS) → IsReasoned asked script n'

@@ -8,8 +8,8 @@ use Rattle.explorer.specs.declared.choice.Choice.{Choice}
 use Rattle.explorer.specs.declared.choice.Choice.TheVariants.{Any, DeviceFirst}
 use Rattle.explore.specs.declared.asked.Asked.{Asked}
 use Rattle.explore.specs.declared.asked.Sample.{Sample}
-use Rattle.explore.specs.declared.fault.Fault.{Fault}
-use Rattle.explore.specs.declared.fault.Fault.TheVariants as fault
+use Rattle.division.specs.declared.fault.Fault.{Fault}
+use Rattle.division.specs.declared.fault.Fault.TheVariants as fault
 use Rattle.explore.specs.Explores.{Explains}
 use Rattle.explore.specs.declared.report.Verdict.{Verdict}
 use Rattle.explore.specs.declared.report.Verdict.TheVariants as verdict
@@ -31,7 +31,7 @@ choice_of every = if every then Any else DeviceFirst
 
 -- the program's options. (Excludes an option that is ignored, and one that is taken for another.)
 abbrev pub exploration_of : ExploreAsked → Asked
-exploration_of asked = record { orders = asked.orders; sample = sample_of asked; turns = asked.turns; choice = choice_of asked.every; placement = placement_of asked.as_linux; show = show_of asked }
+exploration_of asked = record { orders = asked.orders; sample = sample_of asked; turns = asked.turns; choice = choice_of asked.every; waits = asked.wait; placement = placement_of asked.as_linux; show = show_of asked }
 
 -- all orders were run, or all of the sample
 abbrev pub IsWhole : Verdict → Type 0

@@ -37,6 +37,8 @@ pub struct ExploreAsked {
     pub as_linux: bool,
     /// Every order is run, and not only those in which calls of the device come first.
     pub every: bool,
+    /// Orders in which a command of the work is answered `busy` are left out.
+    pub wait: bool,
 }
 
 fn sample_of(asked: ExploreAsked) -> Option<Sample>
@@ -80,6 +82,7 @@ fn exploration_of(asked: ExploreAsked) -> Asked
         sample: sample_of(asked),
         turns: asked.turns,
         choice: choice_of(asked.every),
+        waits: asked.wait,
         placement: placement_of(asked.as_linux),
         show: show_of(asked),
     }

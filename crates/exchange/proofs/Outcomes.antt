@@ -276,7 +276,7 @@ faultless parts e =
     }
 
 pub device_first_loses_nothing : DeviceFirstLosesNothing
-device_first_loses_nothing = λ parts none work run outcome h.
+device_first_loses_nothing = λ parts none work run busy outcome h.
     let r : Reaches Any parts run h.steps h.answers h.said h.point = h.reaches in
     let w : World = first_world parts.config (disk_of parts) in
     let begins : Runs (first_world parts.config (disk_of parts)) (parts.setup.items ++ r.first_steps) (r.setup_answers ++ r.first_answers) r.first.world =
@@ -325,6 +325,7 @@ device_first_loses_nothing = λ parts none work run outcome h.
           right = subst R h.ends h.schedules.right;
         };
         ends = refl;
+        busy_is = h.busy_is;
         outcome_is = h.outcome_is;
       },
     )

@@ -30,7 +30,7 @@ pub fn runs_are_quiet()
 {}
 
 /// If no call of the device fails, each outcome of an order of some work is one of an order of equal length with device
-/// calls first.
+/// calls first. If no command met a page in transfer, none does in that order.
 pub fn device_first_loses_nothing()
     ensures { DeviceFirstLosesNothing }
 {}

@@ -1,5 +1,5 @@
 -- The rows of a script's work are apart, so nothing is lost if calls of the device come first.
-use Rattle.std.proofs.Common.{◌≡◌, ℕ, ◌<◌, ◌≤◌, Bool, true, false, ltb, List, [], ◌∷◌, ◌++◌, map, Option, Some, None, refl, sym, ap, ◌∙◌, subst, arith}
+use Rattle.std.proofs.Common.{◌≡◌, ℕ, ◌<◌, ◌≤◌, Bool, true, false, ltb, List, [], ◌∷◌, ◌++◌, map, Some, refl, sym, ap, ◌∙◌, subst, arith}
 use Rattle.std.specs.Prelude.{fold, slice_get, slice_index_or, if◌then◌else◌}
 use Rattle.std.specs.Option.{option_map}
 use Rattle.std.specs.List.{filter_map}
@@ -13,7 +13,6 @@ use Rattle.machine.specs.declared.command.Command.{Command}
 use Rattle.machine.specs.declared.command.Command.TheVariants.{Exit}
 use Rattle.machine.specs.declared.command.Step.{Step}
 use Rattle.machine.specs.declared.command.Step.TheVariants.{Begin}
-use Rattle.machine.proofs.Values.{some_inj}
 use Rattle.driver.specs.Schedule.{number_of as number_in}
 use Rattle.scripts.specs.declared.meaning.Item.{Item}
 use Rattle.scripts.specs.Work.{before_go, number_of, commands_by, with_actor, actors_of, numbers_of}
@@ -25,7 +24,8 @@ use Rattle.explorer.specs.declared.parts.Row.{Row}
 use Rattle.explorer.specs.Outcome.{no_call_fails, choice_in}
 use Rattle.exchange.specs.Outcomes.{AreApart, LosesNothing}
 use Rattle.exchange.proofs.Outcomes.{device_first_loses_nothing}
-use Rattle.explore.specs.Division.{shown_row, row_in, begun_by, left_by, actors_in, worked_in, IsDivided}
+use Rattle.division.proofs.RowLemmas.{Mapped, mapped}
+use Rattle.division.specs.Division.{shown_row, row_in, begun_by, left_by, actors_in, worked_in, IsDivided}
 
 -- ---- the actors' numbers
 
@@ -73,19 +73,6 @@ same_numbers (actor.Task n) = refl
 
 -- ---- the rows
 
--- what a list has at a place, if its map has something there
-pub record Mapped {A B : Type 0} (f : A → B) (xs : List A) (k : ℕ) (y : B) : Type 0 where
-  pub x : A
-  pub there : slice_get xs k ≡ Some x
-  pub is : f x ≡ y
-
-pub mapped : {A B : Type 0} (f : A → B) (xs : List A) (k : ℕ) (y : B) → slice_get (map f xs) k ≡ Some y → Mapped f xs k y
-mapped f xs k y e = by (slice_get xs k) refl (sym (slice_get-map f xs k) ∙ e)
-  where
-    by : (o : Option _) → slice_get xs k ≡ o → option_map f o ≡ Some y → Mapped f xs k y
-    by None g h = cc
-    by (Some x) g h = record { x = x; there = g; is = some_inj h }
-
 module _ (is : List Item) (parts : Parts) (divided : IsDivided is parts) where
   row_of : (place : ℕ) (row : Row) → slice_get parts.rows.items place ≡ Some row → Mapped (row_in is) (actors_in is) place (shown_row row)
   row_of place row e =
@@ -115,7 +102,7 @@ module _ (is : List Item) (parts : Parts) (divided : IsDivided is parts) where
 -- ---- nothing is lost
 
 loses_by : (choice : Choice) (parts : Parts) → no_call_fails parts ≡ true → AreApart parts.rows.items → LosesNothing choice parts
-loses_by Any parts none h = λ run outcome is. (run, refl, is)
+loses_by Any parts none h = λ run busy outcome is. (run, refl, is)
 loses_by DeviceFirst parts none h = device_first_loses_nothing parts none h
 
 pub loses_nothing : (choice : Choice) (is : List Item) (parts : Parts) → IsDivided is parts → LosesNothing (choice_in parts choice) parts
@@ -123,4 +110,4 @@ loses_nothing choice is parts divided = by (no_call_fails parts) refl
   where
     by : (b : Bool) → no_call_fails parts ≡ b → LosesNothing (if b then choice else Any) parts
     by true e = loses_by choice parts e (are_apart is parts divided)
-    by false e = λ run outcome h. (run, refl, h)
+    by false e = λ run busy outcome h. (run, refl, h)

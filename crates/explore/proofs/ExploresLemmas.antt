@@ -21,21 +21,21 @@ use Rattle.explorer.specs.declared.parts.Parts.{Parts}
 use Rattle.explorer.specs.Outcome.{disk_of}
 use Rattle.explorer.specs.Tally.{Findings}
 use Rattle.explore.specs.declared.asked.Asked.{Asked}
-use Rattle.explore.specs.declared.fault.Fault.{Fault}
-use Rattle.explore.specs.declared.fault.Fault.TheVariants as fault
+use Rattle.division.specs.declared.fault.Fault.{Fault}
+use Rattle.division.specs.declared.fault.Fault.TheVariants as fault
 use Rattle.explore.specs.declared.report.Verdict.{Verdict}
-use Rattle.explore.specs.declared.said.Said.{Said}
-use Rattle.explore.specs.Division.{IsDivided, ArePartsOf}
-use Rattle.explore.specs.Said.{said_of_item, IsRead}
-use Rattle.explore.specs.Sorting.{goes}
-use Rattle.explore.specs.Reasons.{config_for, world_for}
+use Rattle.division.specs.declared.said.Said.{Said}
+use Rattle.division.specs.Division.{IsDivided, ArePartsOf}
+use Rattle.division.specs.Said.{said_of_item, IsRead}
+use Rattle.division.specs.Sorting.{goes}
+use Rattle.division.specs.Reasons.{config_for, world_for, SetsUp}
 use Rattle.explore.specs.Explores.{verdict_of, list_for, IsFound, Explores, Explains}
-use Rattle.explore.specs.Trial.{RefusesLine, IsTrialFault}
-use Rattle.explore.specs.Faults.{IsUndivided, IsOfRun, IsUnshown}
+use Rattle.division.specs.Trial.{IsAccepted, RefusesLine, IsTrialFault}
+use Rattle.division.specs.Faults.{IsUndivided, IsOfRun, IsUnshown}
 use Rattle.explore.proofs.ApartLemmas.{loses_nothing}
-use Rattle.explore.proofs.DivisionLemmas.{before}
-use Rattle.explore.proofs.GoLemmas.{goes_of}
-use Rattle.explore.proofs.TrialLemmas.{refuses-at}
+use Rattle.division.proofs.DivisionLemmas.{before}
+use Rattle.division.proofs.GoLemmas.{goes_of}
+use Rattle.division.proofs.TrialLemmas.{accepts-all, refuses-at}
 
 -- none of its lines is faulty, so they were read as this schedule
 is_read : (script : List ℕ) (schedule : ScheduleOf) → IsFaultless Schedule (lines script) → schedule.steps ≡ steps_in Schedule (items_of (lines script)) → schedule.numbers ≡ lines_in Schedule (items_of (lines script)) → IsRead (items_of (lines script)) (lines script) schedule
@@ -55,14 +55,15 @@ are_parts asked script config reads writes schedule parts faultless c r w s n pc
 }
 
 pub explored : (asked : Asked) (script : List ℕ) (parts : Parts) (walk : Walk) (found : Findings) (text : List ℕ) (verdict : Verdict) (old new : Option (List ℕ))
-    → IsFaultless Schedule (lines script) → ArePartsOf asked.placement (items_of (lines script)) parts
+    → IsFaultless Schedule (lines script) → ArePartsOf asked.placement (items_of (lines script)) parts → SetsUp asked.placement (items_of (lines script))
     → IsFound asked parts walk found → (asked.show ≡ None → text ≡ list_for asked parts walk found) → Appends old new text → verdict ≡ verdict_of asked walk (length found.rows) → Explores asked script verdict old new
-explored asked script parts walk found text verdict old new faultless parts_are is_found lists appends said =
+explored asked script parts walk found text verdict old new faultless parts_are set_up is_found lists appends said =
     let P : List ℕ → Type 0 = λ (bs : List ℕ). Appends old new bs in
     record {
       faultless = faultless;
       parts = parts;
       parts_are = parts_are;
+      set_up = set_up;
       walk = walk;
       found = found;
       is_found = is_found;
@@ -90,11 +91,24 @@ unparted asked script schedule why h s n u = by why (u (items_of (lines script))
     by (fault.Unwritable error) r = absurd r
 
 -- the machine before the setup
-opened : (asked : Asked) (is : List Item) (parts : Parts) → ArePartsOf asked.placement is parts → first_world parts.config (disk_of parts) ≡ world_for asked is
+opened : (asked : Asked) (is : List Item) (parts : Parts) → ArePartsOf asked.placement is parts → first_world parts.config (disk_of parts) ≡ world_for asked.placement is
 opened asked is parts h =
     ap (λ (c : Config). first_world c (new_disk (blocks_of c) parts.read_faults.items parts.write_faults.items)) h.config
-    ∙ ap (λ (r : List ℕ). first_world (config_for asked is) (new_disk (blocks_of (config_for asked is)) r parts.write_faults.items)) h.read_faults
-    ∙ ap (λ (w : List ℕ). first_world (config_for asked is) (new_disk (blocks_of (config_for asked is)) (faults_of Read is) w)) h.write_faults
+    ∙ ap (λ (r : List ℕ). first_world (config_for asked.placement is) (new_disk (blocks_of (config_for asked.placement is)) r parts.write_faults.items)) h.read_faults
+    ∙ ap (λ (w : List ℕ). first_world (config_for asked.placement is) (new_disk (blocks_of (config_for asked.placement is)) (faults_of Read is) w)) h.write_faults
+
+-- the setup is that of the script's lines
+setup_of : (is : List Item) (ls : List Said) → ls ≡ map said_of_item is → before_first goes ls ≡ map said_of_item (before_go is)
+setup_of is ls e = ap (before_first goes) e ∙ before is
+
+pub sets-up : (asked : Asked) (script : List ℕ) (schedule : ScheduleOf) (parts : Parts) (ls : List Said)
+    → IsFaultless Schedule (lines script) → schedule.steps ≡ steps_in Schedule (items_of (lines script)) → schedule.numbers ≡ lines_in Schedule (items_of (lines script))
+    → ArePartsOf asked.placement (items_of (lines script)) parts → ((is : List Item) → IsRead is (lines script) schedule → ls ≡ map said_of_item is)
+    → IsAccepted (first_world parts.config (disk_of parts)) (before_first goes ls) → SetsUp asked.placement (items_of (lines script))
+sets-up asked script schedule parts ls h s n parts_are said a =
+    let is : List Item = items_of (lines script) in
+    let P : World → Type 0 = λ (w : World). IsAccepted w (before_first goes ls) in
+    accepts-all asked.placement is (before_first goes ls) (setup_of is ls (said is (is_read script schedule h s n))) (subst P (opened asked is parts parts_are) a)
 
 pub unset : (asked : Asked) (script : List ℕ) (schedule : ScheduleOf) (parts : Parts) (ls : List Said) (why : Fault)
     → IsFaultless Schedule (lines script) → schedule.steps ≡ steps_in Schedule (items_of (lines script)) → schedule.numbers ≡ lines_in Schedule (items_of (lines script))
@@ -106,12 +120,12 @@ unset asked script schedule parts ls why h s n parts_are said = by why
     is = items_of (lines script)
 
     setup : before_first goes ls ≡ map said_of_item (before_go is)
-    setup = ap (before_first goes) (said is (is_read script schedule h s n)) ∙ before is
+    setup = setup_of is ls (said is (is_read script schedule h s n))
 
     by : (why : Fault) → IsTrialFault (first_world parts.config (disk_of parts)) (before_first goes ls) why → Explains asked script why
     by (fault.SetupFails number text) r =
         let P : World → Type 0 = λ (w : World). RefusesLine w (before_first goes ls) number (string_bytes text) in
-        (h, refuses-at asked is (before_first goes ls) number (string_bytes text) setup (subst P (opened asked is parts parts_are) r))
+        (h, refuses-at asked.placement is (before_first goes ls) number (string_bytes text) setup (subst P (opened asked is parts parts_are) r))
     by fault.Memory r = h
     by (fault.Script why) r = absurd r
     by (fault.TakesApart number) r = absurd r

@@ -1,9 +1,3 @@
 pub mod ApartLemmas
-pub mod GoLemmas
-pub mod SaidLemmas
-pub mod RowLemmas
-pub mod FaultLemmas
-pub mod DivisionLemmas
-pub mod TrialLemmas
 pub mod ListingLemmas
 pub mod ExploresLemmas

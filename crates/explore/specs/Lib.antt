@@ -1,9 +1,3 @@
-pub mod Said
-pub mod Division
-pub mod Sorting
 pub mod Listing
 pub mod Listed
-pub mod Reasons
 pub mod Explores
-pub mod Trial
-pub mod Faults

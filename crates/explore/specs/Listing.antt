@@ -1,5 +1,5 @@
 -- The list of outcomes that is printed.
-use Rattle.std.specs.Prelude.{ℕ, ◌+◌, ◌==◌, nat_lt, List, [], ◌∷◌, ◌++◌, fold, length, codes, decimal, if◌then◌else◌}
+use Rattle.std.specs.Prelude.{ℕ, ◌+◌, ◌==◌, nat_lt, Bool, List, [], ◌∷◌, ◌++◌, fold, length, codes, decimal, if◌then◌else◌}
 use Rattle.std.specs.List.{sum_by}
 use Rattle.machine.specs.Control.{line}
 use Rattle.walks.specs.declared.Walk.{Walk}
@@ -46,10 +46,22 @@ doubt Stopped = []
 doubt TooDeep = []
 doubt (Sample count) = codes "; there may be others"
 
+-- how many orders are counted
+abbrev pub kept_in : List Counted → ℕ
+kept_in rows = sum_by (λ (row : Counted). row.orders) rows
+
+-- said of orders that have no answer `busy`
+abbrev pub without_busy : ℕ → List ℕ
+without_busy kept = if kept == 1 then codes " without `busy` has " else codes " without `busy` have "
+
+-- of which orders the outcomes are: of those that were run, or, if commands wait, of those in which none was answered `busy`. (Excludes orders that are left out in silence.)
+abbrev pub whose : Bool → Walk → ℕ → ℕ → List ℕ
+whose waits walk orders kept = if waits then codes "; " ++ many kept (codes "order") ++ without_busy kept else codes ", " ++ have walk orders
+
 -- how many orders were run, and which, how many turns the shortest and the longest of them have, and how many outcomes there are. (Excludes a number of turns that no order has.)
-abbrev pub first_line : Choice → Walk → ℕ → ℕ → ℕ → ℕ → List ℕ
-first_line choice walk orders shortest longest outcomes =
-    line (how_far walk ++ many orders (codes "order") ++ which choice ++ codes ", of " ++ turns_text shortest longest ++ codes ", " ++ have walk orders ++ many outcomes (codes "outcome") ++ doubt walk)
+abbrev pub first_line : Choice → Bool → Walk → ℕ → ℕ → ℕ → ℕ → ℕ → List ℕ
+first_line choice waits walk orders kept shortest longest outcomes =
+    line (how_far walk ++ many orders (codes "order") ++ which choice ++ codes ", of " ++ turns_text shortest longest ++ whose waits walk orders kept ++ many outcomes (codes "outcome") ++ doubt walk)
 
 -- ---- the outcomes
 
@@ -72,13 +84,13 @@ rows_text number [] = []
 rows_text number (row ∷ rows) = row_text number row ++ rows_text (number + 1) rows
 
 -- how many orders were run to their end
-abbrev pub orders_in : Walk → ℕ → List Counted → ℕ
-orders_in (All count) most rows = count
-orders_in (Sample count) most rows = count
-orders_in Stopped most rows = most
-orders_in TooDeep most rows = sum_by (λ (row : Counted). row.orders) rows
+abbrev pub orders_in : Walk → ℕ → ℕ → ℕ → ℕ
+orders_in (All count) most kept left_out = count
+orders_in (Sample count) most kept left_out = count
+orders_in Stopped most kept left_out = most
+orders_in TooDeep most kept left_out = kept + left_out
 
-abbrev pub list_text : Choice → Walk → ℕ → Findings → List ℕ
-list_text choice walk orders found =
+abbrev pub list_text : Choice → Bool → Walk → ℕ → Findings → List ℕ
+list_text choice waits walk orders found =
     if orders == 0 then line (codes "no order was run to its end")
-    else first_line choice walk orders found.shortest found.longest (length found.rows) ++ rows_text 1 (ranked found.rows)
+    else first_line choice waits walk orders (kept_in found.rows) found.shortest found.longest (length found.rows) ++ rows_text 1 (ranked found.rows)

@@ -23,6 +23,8 @@ pub struct Asked {
     pub turns: u32,
     /// Which actors can take the next turn. If a call of the device can fail, this is not heeded: each that is ready can.
     pub choice: Choice,
+    /// Whether commands wait for the end of a transfer. Then an order with an answer `busy` in the work is left out.
+    pub waits: bool,
     /// Where pages that are read in enter the generation lists.
     pub placement: Placement,
     /// The outcome, counted from 1, whose first order is shown as a script, in place of the list of outcomes.
@@ -31,13 +33,14 @@ pub struct Asked {
 
 impl Default for Asked {
     /// All orders in which device calls come first, if there are at most 100,000 of at most 1,000 turns, with our own
-    /// placement. The outcomes are listed.
+    /// placement. Each outcome is listed, those with `busy` too.
     fn default() -> Asked {
         Asked {
             orders: 100_000,
             sample: None,
             turns: 1000,
             choice: Choice::DeviceFirst,
+            waits: false,
             placement: Placement::Own,
             show: None,
         }

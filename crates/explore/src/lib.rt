@@ -7,19 +7,11 @@
 #![tactic(auto)]
 
 mod asked;
-mod fault;
 mod listing;
 mod report;
-mod rows;
-mod said;
-mod script;
 mod shown;
-mod trial;
-
-/// The most actors of a script that is explored.
-pub const MOST_ACTORS: usize = 1000;
 
 pub use asked::{Asked, Sample};
+pub use division::{Fault, MOST_ACTORS};
 pub use explorer::Choice;
-pub use fault::Fault;
 pub use report::{Verdict, explore_script};

@@ -2,12 +2,12 @@
 
 ghost use Rattle.std.specs.Prelude.{◌≡◌, ◌++◌, ◌+◌, map, length, IfOk, OnOk};
 ghost use Rattle.std.specs.String.{string_bytes};
-ghost use Rattle.std.specs.List.{sum_by, position};
-ghost use Rattle.explorer.specs.Tally.{Counted};
-ghost use Rattle.explore.specs.Listing.{many, how_far, which, turns_text, have, doubt, first_line, with_ranked, ranked, row_text, rows_text, orders_in, list_text};
-ghost use Rattle.explore.specs.Listed.{shown, shown_rows, is_fewer};
+ghost use Rattle.std.specs.List.{position};
+ghost use Rattle.explorer.specs.Explored.{findings};
+ghost use Rattle.explore.specs.Listing.{many, how_far, which, turns_text, has, have, doubt, without_busy, whose, kept_in, first_line, with_ranked, ranked, row_text, rows_text, orders_in, list_text};
+ghost use Rattle.explore.specs.Listed.{shown, shown_rows, is_fewer, list_by};
 
-use explorer::{Choice, Found, Table};
+use explorer::{Choice, Exploration, Found, Table};
 use std::alloc::{AllocError, Global};
 use walks::Walk;
 
@@ -65,19 +65,24 @@ fn add_turns(text: &mut String, shortest: usize, longest: usize) -> Result<(), A
     add_many(text, longest as u64, "turn")
 }
 
+/// Adds `has` or `have`.
+fn add_has(text: &mut String, orders: u64) -> Result<(), AllocError>
+    ensures { OnOk result (string_bytes text.new ≡ string_bytes text.old ++ has orders) }
+{
+    if orders == 1 {
+        text.push_str("has ")
+    } else {
+        text.push_str("have ")
+    }
+}
+
 /// Adds that the orders have outcomes, or that a sample shows some.
 fn add_have(text: &mut String, walk: Walk, orders: u64) -> Result<(), AllocError>
     ensures { OnOk result (string_bytes text.new ≡ string_bytes text.old ++ have walk orders) }
 {
     match walk {
         Walk::Sample(_) => text.push_str("shows "),
-        Walk::All(_) | Walk::Stopped | Walk::TooDeep => {
-            if orders == 1 {
-                text.push_str("has ")
-            } else {
-                text.push_str("have ")
-            }
-        }
+        Walk::All(_) | Walk::Stopped | Walk::TooDeep => add_has(text, orders),
     }
 }
 
@@ -91,26 +96,63 @@ fn add_doubt(text: &mut String, walk: Walk) -> Result<(), AllocError>
     }
 }
 
+/// What a walk has found.
+#[derive(Clone, Copy)]
+struct Summary {
+    pub walk: Walk,
+    /// How many orders were run to their end.
+    pub orders: u64,
+    /// How many of them are counted.
+    pub kept: u64,
+    /// The number of turns of the shortest order.
+    pub shortest: usize,
+    /// That of the longest.
+    pub longest: usize,
+    /// How many outcomes there are.
+    pub outcomes: usize,
+}
+
+/// Adds that orders have no answer `busy`.
+fn add_without_busy(text: &mut String, kept: u64) -> Result<(), AllocError>
+    ensures { OnOk result (string_bytes text.new ≡ string_bytes text.old ++ without_busy kept) }
+{
+    if kept == 1 {
+        text.push_str(" without `busy` has ")
+    } else {
+        text.push_str(" without `busy` have ")
+    }
+}
+
+/// Adds of which orders the outcomes are.
+fn add_whose(text: &mut String, waits: bool, found: Summary) -> Result<(), AllocError>
+    ensures { OnOk result (string_bytes text.new ≡ string_bytes text.old ++ whose waits found.walk found.orders found.kept) }
+{
+    if waits {
+        text.push_str("; ")?;
+        add_many(text, found.kept, "order")?;
+        return add_without_busy(text, found.kept);
+    }
+    text.push_str(", ")?;
+    add_have(text, found.walk, found.orders)
+}
+
 /// Adds the first line: how many orders were run, and which, how long they are, and how many outcomes they have.
 fn add_first_line(
     text: &mut String,
     choice: Choice,
-    walk: Walk,
-    orders: u64,
-    turns: (usize, usize),
-    outcomes: usize,
+    waits: bool,
+    found: Summary,
 ) -> Result<(), AllocError>
-    ensures { OnOk result (string_bytes text.new ≡ string_bytes text.old ++ first_line choice walk orders turns.0 turns.1 outcomes) }
+    ensures { OnOk result (string_bytes text.new ≡ string_bytes text.old ++ first_line choice waits found.walk found.orders found.kept found.shortest found.longest found.outcomes) }
 {
-    add_how_far(text, walk)?;
-    add_many(text, orders, "order")?;
+    add_how_far(text, found.walk)?;
+    add_many(text, found.orders, "order")?;
     add_which(text, choice)?;
     text.push_str(", of ")?;
-    add_turns(text, turns.0, turns.1)?;
-    text.push_str(", ")?;
-    add_have(text, walk, orders)?;
-    add_many(text, outcomes as u64, "outcome")?;
-    add_doubt(text, walk)?;
+    add_turns(text, found.shortest, found.longest)?;
+    add_whose(text, waits, found)?;
+    add_many(text, found.outcomes as u64, "outcome")?;
+    add_doubt(text, found.walk)?;
     text.push_str("\n")
 }
 
@@ -192,9 +234,9 @@ pub fn ranked<'t>(alloc: Global, found: &[Listed<'t>]) -> Result<Vec<Listed<'t>>
     Ok(rows)
 }
 
-/// How many orders were counted.
-fn orders_of(rows: &[Listed<'_>]) -> Result<u64, AllocError>
-    ensures { IfOk result (λ orders. orders ≡ sum_by (λ (row : Counted). row.orders) (shown_rows rows.now)) }
+/// How many orders give these outcomes.
+fn kept_in(rows: &[Listed<'_>]) -> Result<u64, AllocError>
+    ensures { IfOk result (λ orders. orders ≡ kept_in (shown_rows rows.now)) }
 {
     let mut orders: u64 = 0;
     for row in rows {
@@ -207,52 +249,65 @@ fn orders_of(rows: &[Listed<'_>]) -> Result<u64, AllocError>
     Ok(orders)
 }
 
-/// How many orders were run to their end, by a walk that runs at most this number.
-fn orders_in(walk: Walk, most: u64, found: &[Listed<'_>]) -> Result<u64, AllocError>
-    ensures { IfOk result (λ orders. orders ≡ orders_in walk most (shown_rows found.now)) }
+/// How many orders were run to their end, by a walk that runs at most this number: those that are counted, and those that
+/// are left out.
+fn orders_in(walk: Walk, most: u64, kept: u64, left_out: u64) -> Result<u64, AllocError>
+    ensures { IfOk result (λ orders. orders ≡ orders_in walk most kept left_out) }
 {
     match walk {
         Walk::All(orders) | Walk::Sample(orders) => Ok(orders),
         Walk::Stopped => Ok(most),
-        Walk::TooDeep => orders_of(found),
+        Walk::TooDeep => match kept.checked_add(left_out) {
+            Some(orders) => Ok(orders),
+            // No exploration has 2^64 orders.
+            None => Err(AllocError),
+        },
     }
 }
 
-/// The list of these outcomes, of this number of orders. The orders have from `turns.0` to `turns.1` turns.
+/// The list of these outcomes.
 #[tactic(auto, using(crate::proofs::ListingLemmas::many_rows))]
 fn list_of(
     alloc: Global,
     choice: Choice,
-    walk: Walk,
-    orders: u64,
-    turns: (usize, usize),
-    found: &[Listed<'_>],
+    waits: bool,
+    found: Summary,
+    rows: &[Listed<'_>],
 ) -> Result<String, AllocError>
-    ensures { IfOk result (λ text. string_bytes text ≡ list_text choice walk orders (record { rows = shown_rows found.now; shortest = turns.0; longest = turns.1 })) }
+    requires { found.outcomes ≡ length rows.now }
+    ensures { IfOk result (λ text. string_bytes text ≡ list_by choice waits found (shown_rows rows.now)) }
 {
     let mut text = String::new(alloc);
-    if orders == 0 {
+    if found.orders == 0 {
         text.push_str("no order was run to its end\n")?;
         return Ok(text);
     }
-    let rows = ranked(alloc, found)?;
-    add_first_line(&mut text, choice, walk, orders, turns, found.len())?;
+    let rows = ranked(alloc, rows)?;
+    add_first_line(&mut text, choice, waits, found)?;
     add_rows(&mut text, &rows)?;
     Ok(text)
 }
 
-/// The list of the outcomes that were found by a walk that runs at most this number of orders. The orders have from
-/// `turns.0` to `turns.1` turns.
+/// The list of the outcomes that were found by a walk that runs at most this number of orders. These are its outcomes.
 pub fn list(
     alloc: Global,
     choice: Choice,
-    walk: Walk,
+    waits: bool,
     most: u64,
-    turns: (usize, usize),
-    found: &[Listed<'_>],
+    found: &Exploration,
+    rows: &[Listed<'_>],
 ) -> Result<String, AllocError>
-    ensures { IfOk result (λ text. string_bytes text ≡ list_text choice walk (orders_in walk most (shown_rows found.now)) (record { rows = shown_rows found.now; shortest = turns.0; longest = turns.1 })) }
+    requires { shown_rows rows.now ≡ found.now.table }
+    ensures { IfOk result (λ text. string_bytes text ≡ list_text choice waits found.now.walk (orders_in found.now.walk most (kept_in found.now.table) found.now.left_out) (findings found.now)) }
 {
-    let orders = orders_in(walk, most, found)?;
-    list_of(alloc, choice, walk, orders, turns, found)
+    let kept = kept_in(rows)?;
+    let found = Summary {
+        walk: found.walk,
+        orders: orders_in(found.walk, most, kept, found.left_out)?,
+        kept,
+        shortest: found.shortest,
+        longest: found.longest,
+        outcomes: rows.len(),
+    };
+    list_of(alloc, choice, waits, found, rows)
 }

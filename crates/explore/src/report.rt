@@ -5,15 +5,12 @@ ghost use Rattle.std.specs.String.{string_bytes};
 ghost use Rattle.machine.specs.State.{is_config};
 ghost use Rattle.explorer.specs.Explored.{findings};
 ghost use Rattle.explore.specs.Explores.{verdict_of, list_for, IsFound, Explores, Explains};
-ghost use Rattle.explore.specs.Faults.{IsOfRun, IsUnshown};
+ghost use Rattle.division.specs.Faults.{IsOfRun, IsUnshown};
 
 use crate::asked::Asked;
-use crate::fault::Fault;
 use crate::listing::{Listed, list, ranked, rows_of};
-use crate::said::Said;
-use crate::script::{Goes, parts_of};
 use crate::shown::shown;
-use crate::trial::try_setup;
+use division::{Fault, Goes, Said, parts_of, try_setup};
 use explorer::{Exploration, Parts, explore, sample};
 use scripts::Mode;
 use std::alloc::Global;
@@ -27,7 +24,7 @@ pub enum Verdict {
     All(usize),
     /// There are more orders than were asked for. The outcomes are those of this number.
     MoreOrders(u64),
-    /// An order has more turns than this. The outcomes are those of the orders before it.
+    /// An order has more turns than this. The outcomes are those of the orders that were run before it.
     MoreTurns(u32),
     /// A sample of the orders was run. It has this number of outcomes, and there may be others.
     Sample(usize),
@@ -78,9 +75,8 @@ fn text_of(
     let rows = rows_of(alloc, &found.table)?;
     match asked.show {
         None => {
-            let turns = (found.shortest, found.longest);
             let choice = parts.choice(asked.choice);
-            Ok(list(alloc, choice, found.walk, asked.orders, turns, &rows)?)
+            Ok(list(alloc, choice, asked.waits, asked.orders, found, &rows)?)
         }
         Some(number) => shown_order(alloc, script, goes, parts, lines, &rows, number),
     }
@@ -106,11 +102,19 @@ fn found_of(alloc: Global, parts: &Parts, asked: Asked) -> Result<Exploration, F
     ensures why { IfErr result IsOfRun }
 {
     match asked.sample {
-        None => Ok(explore(alloc, parts, asked.choice, asked.turns, asked.orders)?),
+        None => Ok(explore(
+            alloc,
+            parts,
+            asked.choice,
+            asked.waits,
+            asked.turns,
+            asked.orders,
+        )?),
         Some(drawn) => Ok(sample(
             alloc,
             parts,
             asked.choice,
+            asked.waits,
             asked.turns,
             drawn.orders,
             drawn.seed,

@@ -3,10 +3,8 @@
 ghost use Rattle.std.specs.Prelude.{◌≡◌, true};
 ghost use Rattle.machine.specs.State.{is_config};
 
-use crate::said::Said;
-use crate::script::Goes;
-use crate::trial::carry_line;
 use block_store::MemDevice;
+use division::{Goes, Said, carry_line};
 use driver::Stepper;
 use explorer::{Parts, carry_one, close_run, next_line, open_run};
 use machine::command::{Actor, Reply, Step};

@@ -1,6 +1,8 @@
 -- The orders that were counted.
-use Rattle.std.proofs.Common.{◌≡◌, ℕ, List, [], ◌∷◌, ◌++◌, true, length, map, fold, refl, sym, ap, ◌∙◌, subst, append_assoc, append-nil, Contains, replicate, ◌<◌, ◌^◌}
-use Rattle.std.specs.Prelude.{min, max}
+use Rattle.std.proofs.Common.{◌≡◌, ℕ, ◌+◌, List, [], ◌∷◌, ◌++◌, Bool, true, false, Option, Some, None, length, map, fold, refl, sym, ap, ◌∙◌, subst, append_assoc, append-nil, length-append, Contains, replicate, ◌<◌, ◌^◌}
+use Rattle.std.specs.Prelude.{min, max, filter, not, ◌&&◌, Result, Ok, Err, IfOk, OnOk, if◌then◌else◌}
+use Rattle.std.specs.List.{list_any}
+use Rattle.std.proofs.lemmas.List.Elements.{filter-append}
 use Rattle.std.proofs.lemmas.List.{map-append}
 use Rattle.machine.specs.declared.config.Config.{Config}
 use Rattle.machine.specs.declared.entry.Entry.{Entry}
@@ -8,29 +10,30 @@ use Rattle.block_store.specs.Device.{Disk}
 use Rattle.driver.specs.Traced.{Closes}
 use Rattle.machine.specs.declared.command.Step.{Step}
 use Rattle.machine.specs.declared.command.Reply.{Reply as Told_by}
-use Rattle.driver.specs.Schedule.{World, first_world, fits, Runs, Schedules}
+use Rattle.driver.specs.Schedule.{World, first_world, fits, Runs}
 use Rattle.driver.proofs.SinkLemmas.{Runs-then}
 use Rattle.orders.specs.Runs.{Run, Turn, path_of_run}
-use Rattle.walks.specs.Walks.{IsWalked, Draws, IsSampled}
+use Rattle.walks.specs.Walks.{IsCut, IsWalked, Draws, IsSampled}
 use Rattle.walks.specs.declared.Walk.{Walk}
 use Rattle.walks.specs.declared.Walk.TheVariants.{All, Stopped, TooDeep, Sample}
 use Rattle.explorer.specs.declared.parts.Parts.{Parts}
 use Rattle.explorer.specs.declared.parts.Row.{Row}
 use Rattle.explorer.specs.declared.choice.Choice.{Choice}
-use Rattle.explorer.specs.Lines.{outcome_text}
-use Rattle.explorer.specs.Work.{Point, AllGoOn, ready_in, eligible_in}
+use Rattle.explorer.specs.Lines.{tells_busy, outcome_text}
+use Rattle.explorer.specs.Work.{Point, AllGoOn, eligible_in}
 use Rattle.explorer.specs.Outcome.{disk_of, at_go, Reaches, IsOutcome}
-use Rattle.explorer.specs.Tally.{Counted, Findings, with_order, add_order, tally}
+use Rattle.explorer.specs.Tally.{Counted, Findings, with_order, IsAdded, add_order, tally}
 use Rattle.explorer.specs.Carried.{at, Carries, GoesAll, Turns}
-use Rattle.explorer.specs.Explorers.{Came, EndsAt, LooksAt, Starts, Gathers}
+use Rattle.explorer.specs.declared.explorer.Exploration.{Exploration}
+use Rattle.explorer.specs.Explorers.{Came, EndsAt, LooksAt, Starts, Gathers, IsAt, IsHandedOn, eligible_now}
 use Rattle.explorer.specs.Turns.{Keeps}
-use Rattle.explorer.specs.Explored.{Order, AreOutcomes, counted, Counts, Finds, Explored, Drawn, Sampled}
+use Rattle.explorer.specs.Explored.{Order, AreOutcomes, counted, is_left_out, is_kept, Counts, Finds, IsTooLong, Explored, Drawn, Sampled}
 use Rattle.explorer.proofs.TurnsLemmas.{spans-kept, keeps-more, path-length}
 use Rattle.explorer.proofs.WorkLemmas.{all_go_on-run, works-run, works-more, eligible-none}
 
 -- ---- counting
 
-are-more : (choice : Choice) (parts : Parts) (orders : List Order) (order : Order) → AreOutcomes choice parts orders → IsOutcome choice parts order.0 order.1 → AreOutcomes choice parts (orders ++ order ∷ [])
+are-more : (choice : Choice) (parts : Parts) (orders : List Order) (order : Order) → AreOutcomes choice parts orders → IsOutcome choice parts order.run order.busy order.outcome → AreOutcomes choice parts (orders ++ order ∷ [])
 are-more choice parts [] order h is = (is, tt)
 are-more choice parts (first ∷ orders) order h is = (h.0, are-more choice parts orders order h.1 is)
 
@@ -38,19 +41,51 @@ fold-more : {A B : Type 0} (f : B → A → B) (b : B) (xs : List A) (x : A) →
 fold-more f b [] x = refl
 fold-more f b (y ∷ xs) x = fold-more f (f b y) xs x
 
-pub counts-none : (choice : Choice) (parts : Parts) (rows : List Counted) → rows ≡ [] → Counts choice parts [] rows
-counts-none choice parts rows e = record { orders = []; runs_are = refl; outcomes = tt; rows_are = e }
+-- what an order gives: nothing if it is left out
+abbrev pub given_by : Bool → List ℕ → Option (List ℕ)
+given_by left outcome = if left then None else Some outcome
 
-pub counts-more : (choice : Choice) (parts : Parts) (runs : List Run) (rows rows' : List Counted) (run : Run) (outcome : List ℕ) → Counts choice parts runs rows → IsOutcome choice parts run outcome → rows' ≡ with_order rows outcome (path_of_run run) → Counts choice parts (runs ++ run ∷ []) rows'
-counts-more choice parts runs rows rows' run outcome h is e =
-    let order : Order = (run, outcome) in
-    record {
+-- one of the orders that pass a test, with another order
+one_more : (p : Order → Bool) (orders : List Order) (order : Order) (b : Bool) → p order ≡ b → filter p (orders ++ order ∷ []) ≡ filter p orders ++ (if b then order ∷ [] else [])
+one_more p orders order b e =
+    let C : Bool → List Order = λ (x : Bool). if x then order ∷ [] else [] in
+    filter-append p orders (order ∷ []) ∙ ap (λ (x : Bool). filter p orders ++ C x) e
+
+pub counts-none : (choice : Choice) (parts : Parts) (waits : Bool) (rows : List Counted) (left : ℕ) → rows ≡ [] → left ≡ 0 → Counts choice parts waits [] rows left
+counts-none choice parts waits rows left e e' = record { orders = []; runs_are = refl; outcomes = tt; rows_are = e; left_out_is = e' }
+
+pub counts-more : (choice : Choice) (parts : Parts) (waits : Bool) (runs : List Run) (rows rows' : List Counted) (left left' : ℕ) (run : Run) (busy : Bool) (outcome : List ℕ) → Counts choice parts waits runs rows left → IsOutcome choice parts run busy outcome
+    → IsAdded (given_by (waits && busy) outcome) (path_of_run run) rows left rows' left' → Counts choice parts waits (runs ++ run ∷ []) rows' left'
+counts-more choice parts waits runs rows rows' left left' run busy outcome h is = by (waits && busy) refl
+  where
+    order : Order
+    order = record { run = run; busy = busy; outcome = outcome }
+
+    tallied : List Order → List Counted
+    tallied orders = tally (map counted orders)
+
+    all : map (λ (o : Order). o.run) (h.orders ++ order ∷ []) ≡ runs ++ run ∷ []
+    all = map-append (λ (o : Order). o.run) h.orders (order ∷ []) ∙ ap (λ (l : List Run). l ++ run ∷ []) h.runs_are
+
+    by : (b : Bool) → (waits && busy) ≡ b → IsAdded (given_by b outcome) (path_of_run run) rows left rows' left' → Counts choice parts waits (runs ++ run ∷ []) rows' left'
+    by true e a = record {
       orders = h.orders ++ order ∷ [];
-      runs_are = map-append (λ (o : Order). o.0) h.orders (order ∷ []) ∙ ap (λ (l : List Run). l ++ run ∷ []) h.runs_are;
+      runs_are = all;
       outcomes = are-more choice parts h.orders order h.outcomes is;
-      rows_are = e ∙ (ap (λ (l : List Counted). with_order l outcome (path_of_run run)) h.rows_are
-          ∙ (sym (fold-more add_order [] (map counted h.orders) (counted order)) ∙ ap tally (sym (map-append counted h.orders (order ∷ [])))));
+      rows_are = a.0 ∙ (h.rows_are ∙ ap tallied (sym (one_more (is_kept waits) h.orders order false (ap (λ (x : Bool). not x) e) ∙ append-nil (filter (is_kept waits) h.orders))));
+      left_out_is = a.1 ∙ (ap (λ (n : ℕ). n + 1) h.left_out_is ∙ sym (ap (λ (l : List Order). length l) (one_more (is_left_out waits) h.orders order true e) ∙ length-append (filter (is_left_out waits) h.orders) (order ∷ [])));
     }
+    by false e a =
+        let kept : List Order = filter (is_kept waits) h.orders in
+        record {
+          orders = h.orders ++ order ∷ [];
+          runs_are = all;
+          outcomes = are-more choice parts h.orders order h.outcomes is;
+          rows_are = a.0 ∙ (ap (λ (l : List Counted). with_order l outcome (path_of_run run)) h.rows_are
+              ∙ (sym (fold-more add_order [] (map counted kept) (counted order)) ∙ (ap tally (sym (map-append counted kept (order ∷ [])))
+              ∙ ap tallied (sym (one_more (is_kept waits) h.orders order true (ap (λ (x : Bool). not x) e))))));
+          left_out_is = a.1 ∙ (h.left_out_is ∙ ap (λ (l : List Order). length l) (sym (one_more (is_left_out waits) h.orders order false e ∙ append-nil (filter (is_left_out waits) h.orders))));
+        }
 
 -- ---- an order, turn by turn
 
@@ -122,7 +157,7 @@ reaches-run choice parts run steps answers said point r =
     subst P (sym r.steps_are) (subst Q (sym e)
     (Runs-then first _ _ r.first.world r.work_steps r.work_answers point.world begins (works-run choice parts.rows.items r.first run r.work_steps r.work_answers point r.works)))
 
-pub outcome-counted : (choice : Choice) (parts : Parts) (run : Run) (world : World) (begun : List ℕ) (said looked : List Told_by) (path outcome : List ℕ) → Came choice parts run world begun said path → [] ≡ eligible_in choice parts.rows.items world → LooksAt world parts.looks.items [] looked → outcome ≡ outcome_text parts.rows.items said looked → IsOutcome choice parts run outcome
+pub outcome-counted : (choice : Choice) (parts : Parts) (run : Run) (world : World) (begun : List ℕ) (said looked : List Told_by) (path outcome : List ℕ) → Came choice parts run world begun said path → [] ≡ eligible_in choice parts.rows.items world → LooksAt world parts.looks.items [] looked → outcome ≡ outcome_text parts.rows.items said looked → IsOutcome choice parts run (list_any tells_busy said) outcome
 outcome-counted choice parts run world begun said looked path outcome h over l e = record {
   steps = h.steps;
   answers = h.answers;
@@ -135,6 +170,7 @@ outcome-counted choice parts run world begun said looked path outcome h over l e
   looks = subst R (sym l.adds) l.runs;
   schedules = (ended l).schedules;
   ends = (ended l).ends;
+  busy_is = refl;
   outcome_is = e;
 }
   where
@@ -148,35 +184,78 @@ outcome-counted choice parts run world begun said looked path outcome h over l e
 
 -- ---- the walk
 
-pub gathers-none : (choice : Choice) (parts : Parts) (rows : List Counted) (shortest longest : ℕ) → rows ≡ [] → Keeps [] shortest longest → Gathers choice parts [] rows shortest longest
-gathers-none choice parts rows shortest longest e k = record { counts = counts-none choice parts rows e; keeps = k }
+pub gathers-none : (choice : Choice) (parts : Parts) (waits : Bool) (rows : List Counted) (left shortest longest : ℕ) → rows ≡ [] → left ≡ 0 → Keeps [] shortest longest → Gathers choice parts waits [] rows left shortest longest
+gathers-none choice parts waits rows left shortest longest e e' k = record { counts = counts-none choice parts waits rows left e e'; keeps = k }
 
-pub gathers-same : (choice choice' : Choice) (parts parts' : Parts) (runs : List Run) (rows rows' : List Counted) (shortest shortest' longest longest' : ℕ) → choice ≡ choice' → parts ≡ parts' → rows' ≡ rows → shortest' ≡ shortest → longest' ≡ longest → Gathers choice parts runs rows shortest longest → Gathers choice' parts' runs rows' shortest' longest'
-gathers-same choice choice' parts parts' runs rows rows' shortest shortest' longest longest' d e f s l g =
-    let C : Choice → Type 0 = λ (x : Choice). Gathers x parts' runs rows' shortest' longest' in
-    let P : Parts → Type 0 = λ (p : Parts). Gathers choice p runs rows' shortest' longest' in
-    let R : List Counted → Type 0 = λ (r : List Counted). Gathers choice parts runs r shortest' longest' in
-    let S : ℕ → Type 0 = λ (n : ℕ). Gathers choice parts runs rows n longest' in
-    let L : ℕ → Type 0 = λ (n : ℕ). Gathers choice parts runs rows shortest n in
-    subst C d (subst P e (subst R (sym f) (subst S (sym s) (subst L (sym l) g))))
+-- what was found, by what the machine has kept
+pub record IsKeptOf (choice : Choice) (parts : Parts) (waits : Bool) (found : Findings) (choice' : Choice) (parts' : Parts) (waits' : Bool) (rows : List Counted) (left shortest longest : ℕ) : Type 0 where
+  pub choice_is : choice' ≡ choice
+  pub parts_are : parts' ≡ parts
+  pub waits_is : waits' ≡ waits
+  pub rows_are : found.rows ≡ rows
+  pub left_is : found.left_out ≡ left
+  pub shortest_is : found.shortest ≡ shortest
+  pub longest_is : found.longest ≡ longest
 
-finds : (choice : Choice) (parts : Parts) (runs : List Run) (found : Findings) → Gathers choice parts runs found.rows found.shortest found.longest → Finds choice parts runs found
-finds choice parts runs found g = record { counts = g.counts; spans = spans-kept runs found.shortest found.longest g.keeps }
+pub finds : (choice : Choice) (parts : Parts) (waits : Bool) (found : Findings) (choice' : Choice) (parts' : Parts) (waits' : Bool) (runs : List Run) (rows : List Counted) (left shortest longest : ℕ)
+    → IsKeptOf choice parts waits found choice' parts' waits' rows left shortest longest → Gathers choice' parts' waits' runs rows left shortest longest → Finds choice parts waits runs found
+finds choice parts waits found choice' parts' waits' runs rows left shortest longest k g =
+    let C : Choice → Type 0 = λ (x : Choice). Gathers x parts waits runs found.rows found.left_out found.shortest found.longest in
+    let P : Parts → Type 0 = λ (p : Parts). Gathers choice' p waits runs found.rows found.left_out found.shortest found.longest in
+    let W : Bool → Type 0 = λ (b : Bool). Gathers choice' parts' b runs found.rows found.left_out found.shortest found.longest in
+    let R : List Counted → Type 0 = λ (r : List Counted). Gathers choice' parts' waits' runs r found.left_out found.shortest found.longest in
+    let O : ℕ → Type 0 = λ (n : ℕ). Gathers choice' parts' waits' runs rows n found.shortest found.longest in
+    let S : ℕ → Type 0 = λ (n : ℕ). Gathers choice' parts' waits' runs rows left n found.longest in
+    let L : ℕ → Type 0 = λ (n : ℕ). Gathers choice' parts' waits' runs rows left shortest n in
+    let same : Gathers choice parts waits runs found.rows found.left_out found.shortest found.longest =
+    subst C k.choice_is (subst P k.parts_are (subst W k.waits_is (subst R (sym k.rows_are) (subst O (sym k.left_is) (subst S (sym k.shortest_is) (subst L (sym k.longest_is) g)))))) in
+    record { counts = same.counts; spans = spans-kept runs found.shortest found.longest same.keeps }
 
-pub explored : (choice : Choice) (parts : Parts) (found : Findings) (depth most : ℕ) (walk : Walk) (M : Type 0) (gathered : M → List Run → Type 0) (machine : M) → ((runs : List Run) → gathered machine runs → Gathers choice parts runs found.rows found.shortest found.longest) → IsWalked gathered machine depth most walk → Explored choice parts depth most walk found
-explored choice parts found depth most (All count) M gathered machine g w = record { runs = w.runs; all = w.all; count_is = w.count_is; finds = finds choice parts w.runs found (g w.runs w.gathers) }
-explored choice parts found depth most Stopped M gathered machine g w = record { runs = w.runs; count_is = w.count_is; finds = finds choice parts w.runs found (g w.runs w.gathers); more = w.more }
-explored choice parts found depth most TooDeep M gathered machine g w = (w.0, w.1, finds choice parts w.0 found (g w.0 w.2))
-explored choice parts found depth most (Sample count) M gathered machine g w = absurd w
+-- an order that was cut is too long
+too_long-at : (now : Option World) (choice : Choice) (parts : Parts) (run : Run) (begun : List ℕ) (said : List Told_by) (path ready : List ℕ) (depth : ℕ)
+    → IsAt now choice parts run begun said path → ready ≡ eligible_now now choice parts.rows.items → length run ≡ depth → (ready ≡ [] → ⊥) → IsTooLong choice parts depth
+too_long-at None choice parts run begun said path ready depth h are count some = absurd h
+too_long-at (Some world) choice parts run begun said path ready depth h are count some =
+    record { run = run; steps = h.steps; answers = h.answers; said = said; point = at world begun; reaches = h.reaches; turns = count; more = λ none. some (are ∙ none) }
 
-drawn : (choice : Choice) (parts : Parts) (found : Findings) (depth count : ℕ) (M : Type 0) (gathered : M → List Run → Type 0) (machine : M) → ((runs : List Run) → gathered machine runs → Gathers choice parts runs found.rows found.shortest found.longest) → Draws gathered machine depth count → Drawn choice parts depth count found
-drawn choice parts found depth count M gathered machine g w = record { runs = w.runs; count_is = w.count_is; short = w.short; finds = finds choice parts w.runs found (g w.runs w.gathers) }
+pub too_long : (now : Option World) (choice choice' : Choice) (parts parts' : Parts) (run : Run) (begun : List ℕ) (said : List Told_by) (path ready : List ℕ) (depth : ℕ)
+    → choice' ≡ choice → parts' ≡ parts → IsAt now choice' parts' run begun said path → ready ≡ eligible_now now choice' parts'.rows.items → length run ≡ depth → (ready ≡ [] → ⊥) → IsTooLong choice parts depth
+too_long now choice choice' parts parts' run begun said path ready depth ce pe h are count some =
+    let C : Choice → Type 0 = λ (x : Choice). IsTooLong x parts depth in
+    let P : Parts → Type 0 = λ (p : Parts). IsTooLong choice' p depth in
+    subst C ce (subst P pe (too_long-at now choice' parts' run begun said path ready depth h are count some))
 
-pub sampled : (choice : Choice) (parts : Parts) (found : Findings) (depth most : ℕ) (walk : Walk) (M : Type 0) (gathered : M → List Run → Type 0) (machine : M) → ((runs : List Run) → gathered machine runs → Gathers choice parts runs found.rows found.shortest found.longest) → IsSampled gathered machine depth most walk → Sampled choice parts depth most walk found
-sampled choice parts found depth most (Sample count) M gathered machine g w = (w.0, drawn choice parts found depth most M gathered machine g w.1)
-sampled choice parts found depth most TooDeep M gathered machine g w = (w.0, w.1, drawn choice parts found depth w.0 M gathered machine g w.2)
-sampled choice parts found depth most (All count) M gathered machine g w = absurd w
-sampled choice parts found depth most Stopped M gathered machine g w = absurd w
+-- what a walk of this machine has found
+pub record IsFoundBy {M : Type 0} (choice : Choice) (parts : Parts) (waits : Bool) (depth : ℕ) (found : Findings) (came : M → Run → Type 0) (may : M → List ℕ → Type 0) (gathered : M → List Run → Type 0) (machine : M) : Type 0 where
+  pub gathers : (runs : List Run) → gathered machine runs → Finds choice parts waits runs found
+  pub cuts : IsCut came may machine depth → IsTooLong choice parts depth
+
+pub explored : {M : Type 0} (choice : Choice) (parts : Parts) (waits : Bool) (found : Findings) (depth most : ℕ) (walk : Walk) (came : M → Run → Type 0) (may : M → List ℕ → Type 0) (gathered : M → List Run → Type 0) (machine : M) → IsFoundBy choice parts waits depth found came may gathered machine → IsWalked came may gathered machine depth most walk → Explored choice parts waits depth most walk found
+explored choice parts waits found depth most (All count) came may gathered machine f w = record { runs = w.runs; all = w.all; count_is = w.count_is; finds = f.gathers w.runs w.gathers }
+explored choice parts waits found depth most Stopped came may gathered machine f w = record { runs = w.runs; runs_are = w.runs_are; count_is = w.count_is; finds = f.gathers w.runs w.gathers; more = w.more }
+explored choice parts waits found depth most TooDeep came may gathered machine f w = record { runs = w.runs; runs_are = w.runs_are; fewer = w.fewer; finds = f.gathers w.runs w.gathers; too_long = f.cuts w.cut }
+explored choice parts waits found depth most (Sample count) came may gathered machine f w = absurd w
+
+drawn : {M : Type 0} (choice : Choice) (parts : Parts) (waits : Bool) (found : Findings) (depth count : ℕ) (gathered : M → List Run → Type 0) (machine : M) → ((runs : List Run) → gathered machine runs → Finds choice parts waits runs found) → Draws gathered machine depth count → Drawn choice parts waits depth count found
+drawn choice parts waits found depth count gathered machine g w = record { runs = w.runs; count_is = w.count_is; short = w.short; finds = g w.runs w.gathers }
+
+pub sampled : {M : Type 0} (choice : Choice) (parts : Parts) (waits : Bool) (found : Findings) (depth most : ℕ) (walk : Walk) (came : M → Run → Type 0) (may : M → List ℕ → Type 0) (gathered : M → List Run → Type 0) (machine : M) → IsFoundBy choice parts waits depth found came may gathered machine → IsSampled came may gathered machine depth most walk → Sampled choice parts waits depth most walk found
+sampled choice parts waits found depth most (Sample count) came may gathered machine f w = (w.0, drawn choice parts waits found depth most gathered machine f.gathers w.1)
+sampled choice parts waits found depth most TooDeep came may gathered machine f w = record { count = w.count; fewer = w.fewer; drawn = drawn choice parts waits found depth w.count gathered machine f.gathers w.draws; too_long = f.cuts w.cut }
+sampled choice parts waits found depth most (All count) came may gathered machine f w = absurd w
+sampled choice parts waits found depth most Stopped came may gathered machine f w = absurd w
+
+-- what is handed on was found by the walk
+pub found-of : {E : Type 0} (result : Result Exploration E) (walked : Result Walk E) (rows : List Counted) (left shortest longest : ℕ) (P : Walk → Type 0) (Q : Exploration → Type 0)
+    → IfOk walked P → IfOk result (IsHandedOn walked rows left shortest longest) → ((found : Exploration) → P found.walk → IsHandedOn walked rows left shortest longest found → Q found) → IfOk result Q
+found-of (Err error) walked rows left shortest longest P Q p h k = tt
+found-of (Ok found) walked rows left shortest longest P Q p h k =
+    let W : Result Walk _ → Type 0 = λ (w : Result Walk _). IfOk w P in
+    k found (subst W h.walk_is p) h
+
+pub holds-of : {E : Type 0} (walked : Result Walk E) (walk : Walk) (P : Type 0) → walked ≡ Ok walk → OnOk walked P → P
+holds-of (Ok other) walk P e h = h
+holds-of (Err error) walk P e h = absurd cc
 
 -- ---- the calls
 
@@ -200,17 +279,22 @@ looks-of world end looks before after entries h closes = record {
       record { schedules = c.schedules; ends = c.ends };
 }
 
--- the order is over, and it is counted
-pub end-gathers : (choice : Choice) (parts : Parts) (runs : List Run) (run : Run) (table table' : List Counted) (shortest longest shortest' longest' turns : ℕ) (world : World) (begun : List ℕ) (said said' before looked looked' : List Told_by) (path path' outcome : List ℕ) (looks : List Step) (rows : List Row)
-    → Gathers choice parts runs table shortest longest → Came choice parts run world begun said path → [] ≡ eligible_in choice parts.rows.items world → looks ≡ parts.looks.items → before ≡ [] → LooksAt world looks before looked → rows ≡ parts.rows.items → said' ≡ said → looked' ≡ looked
-    → outcome ≡ outcome_text rows said' looked' → path' ≡ path → table' ≡ with_order table outcome path' → turns ≡ length path → turns < 2 ^ 64 → shortest' ≡ min shortest turns → longest' ≡ max longest turns → Gathers choice parts (runs ++ run ∷ []) table' shortest' longest'
-end-gathers choice parts runs run table table' shortest longest shortest' longest' turns world begun said said' before looked looked' path path' outcome looks rows gathers came over e1 e2 l e3 e4 e5 is e6 adds e7 lt e8 e9 =
+-- the order is over, and it is counted or left out
+pub end-gathers : (choice : Choice) (parts : Parts) (waits : Bool) (runs : List Run) (run : Run) (table table' : List Counted) (left left' shortest longest shortest' longest' turns : ℕ) (world : World) (begun : List ℕ) (said said' before looked looked' : List Told_by) (path path' : List ℕ) (result : Option (List ℕ)) (looks : List Step) (rows : List Row)
+    → Gathers choice parts waits runs table left shortest longest → Came choice parts run world begun said path → [] ≡ eligible_in choice parts.rows.items world → looks ≡ parts.looks.items → before ≡ [] → LooksAt world looks before looked → rows ≡ parts.rows.items → said' ≡ said → looked' ≡ looked
+    → result ≡ given_by (waits && list_any tells_busy said') (outcome_text rows said' looked') → path' ≡ path → IsAdded result path' table left table' left' → turns ≡ length path → turns < 2 ^ 64 → shortest' ≡ min shortest turns → longest' ≡ max longest turns → Gathers choice parts waits (runs ++ run ∷ []) table' left' shortest' longest'
+end-gathers choice parts waits runs run table table' left left' shortest longest shortest' longest' turns world begun said said' before looked looked' path path' result looks rows gathers came over e1 e2 l e3 e4 e5 is e6 adds e7 lt e8 e9 =
     let P : List Step → Type 0 = λ (s : List Step). LooksAt world s before looked in
     let Q : List Told_by → Type 0 = λ (r : List Told_by). LooksAt world parts.looks.items r looked in
-    let text : outcome ≡ outcome_text parts.rows.items said looked =
-    is ∙ (ap (λ (r : List Row). outcome_text r said' looked') e3 ∙ (ap (λ (s : List Told_by). outcome_text parts.rows.items s looked') e4 ∙ ap (λ (s : List Told_by). outcome_text parts.rows.items said s) e5)) in
+    let A : Option (List ℕ) → Type 0 = λ (r : Option (List ℕ)). IsAdded r (path_of_run run) table left table' left' in
+    let B : List ℕ → Type 0 = λ (p : List ℕ). IsAdded result p table left table' left' in
+    let outcome : List ℕ = outcome_text parts.rows.items said looked in
+    let text : result ≡ given_by (waits && list_any tells_busy said) outcome =
+    is ∙ (ap (λ (r : List Row). given_by (waits && list_any tells_busy said') (outcome_text r said' looked')) e3 ∙ (ap (λ (s : List Told_by). given_by (waits && list_any tells_busy s) (outcome_text parts.rows.items s looked')) e4
+    ∙ ap (λ (s : List Told_by). given_by (waits && list_any tells_busy said) (outcome_text parts.rows.items said s)) e5)) in
     record {
-      counts = counts-more choice parts runs table table' run outcome gathers.counts (outcome-counted choice parts run world begun said looked path outcome came over (subst Q e2 (subst P e1 l)) text)
-          (adds ∙ ap (λ (p : List ℕ). with_order table outcome p) (e6 ∙ came.path_is));
+      counts = counts-more choice parts waits runs table table' left left' run (list_any tells_busy said) outcome gathers.counts
+          (outcome-counted choice parts run world begun said looked path outcome came over (subst Q e2 (subst P e1 l)) refl)
+          (subst A text (subst B (e6 ∙ came.path_is) adds));
       keeps = keeps-more runs run shortest longest shortest' longest' turns gathers.keeps (e7 ∙ (ap (λ (p : List ℕ). length p) came.path_is ∙ path-length run)) lt e8 e9;
     }

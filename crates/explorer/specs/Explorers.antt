@@ -1,11 +1,13 @@
 -- What an explorer keeps of the current order. Clauses of private functions cite it.
-use Rattle.std.specs.Prelude.{◌≡◌, ℕ, true, List, [], ◌++◌, length, Option, Some, None}
+use Rattle.std.specs.Prelude.{◌≡◌, ℕ, Bool, true, List, [], ◌++◌, length, Option, Some, None, Result, Ok}
 use Rattle.machine.specs.declared.config.Config.{Config}
 use Rattle.machine.specs.declared.command.Step.{Step}
 use Rattle.machine.specs.declared.command.Reply.{Reply as Told_by}
 use Rattle.block_store.specs.Device.{Disk}
 use Rattle.driver.specs.Schedule.{World, first_world, fits, Runs, Schedules}
 use Rattle.orders.specs.Runs.{Run, path_of_run}
+use Rattle.walks.specs.declared.Walk.{Walk}
+use Rattle.explorer.specs.declared.explorer.Exploration.{Exploration}
 use Rattle.explorer.specs.declared.parts.Parts.{Parts}
 use Rattle.explorer.specs.declared.parts.Row.{Row}
 use Rattle.explorer.specs.declared.choice.Choice.{Choice}
@@ -55,6 +57,14 @@ eligible_now None choice rows = []
 eligible_now (Some world) choice rows = eligible_in choice rows world
 
 -- what it keeps of these runs
-pub record Gathers (choice : Choice) (parts : Parts) (runs : List Run) (rows : List Counted) (shortest longest : ℕ) : Type 0 where
-  pub counts : Counts choice parts runs rows
+pub record Gathers (choice : Choice) (parts : Parts) (waits : Bool) (runs : List Run) (rows : List Counted) (left_out shortest longest : ℕ) : Type 0 where
+  pub counts : Counts choice parts waits runs rows left_out
   pub keeps : Keeps runs shortest longest
+
+-- what is handed on of a walk that did not fail
+pub record IsHandedOn {E : Type 0} (walked : Result Walk E) (rows : List Counted) (left_out shortest longest : ℕ) (found : Exploration) : Type 0 where
+  pub walk_is : walked ≡ Ok found.walk
+  pub rows_are : found.table ≡ rows
+  pub left_out_is : found.left_out ≡ left_out
+  pub shortest_is : found.shortest ≡ shortest
+  pub longest_is : found.longest ≡ longest

@@ -3,6 +3,7 @@ use Rattle.std.specs.Prelude.{ℕ, Bool, true, false, ◌&&◌, ◌==◌, not, L
 use Rattle.machine.specs.declared.command.Actor.{Actor}
 use Rattle.machine.specs.declared.command.Answer.{Answer}
 use Rattle.machine.specs.declared.command.Answer.TheVariants as answer
+use Rattle.machine.specs.declared.command.Word.TheVariants as word
 use Rattle.machine.specs.declared.command.Reply.{Reply as Told_by}
 use Rattle.machine.specs.Printed.{printed}
 use Rattle.scripts.specs.Work.{number_of}
@@ -19,6 +20,19 @@ is_kill (answer.Word said) = false
 
 abbrev pub tells_kill : Told_by → Bool
 tells_kill told = is_kill told.answer
+
+-- the answer is that its command meets a page in transfer
+abbrev pub is_busy : Answer → Bool
+is_busy (answer.Word word.Busy) = true
+is_busy (answer.Word said) = false
+is_busy (answer.Byte byte) = false
+is_busy (answer.Text text) = false
+is_busy answer.Done = false
+is_busy (answer.Kill task) = false
+is_busy (answer.KillAll victim tasks) = false
+
+abbrev pub tells_busy : Told_by → Bool
+tells_busy told = is_busy told.answer
 
 -- it answers a command of the actor
 abbrev pub answers_to : Actor → Told_by → Bool

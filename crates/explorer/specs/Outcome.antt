@@ -1,5 +1,6 @@
 -- What an order is, and its outcome.
 use Rattle.std.specs.Prelude.{◌≡◌, ℕ, Bool, true, ◌==◌, ◌&&◌, List, [], ◌++◌, length, replicate, if◌then◌else◌}
+use Rattle.std.specs.List.{list_any}
 use Rattle.machine.specs.declared.command.Reply.{Reply as Told_by}
 use Rattle.machine.specs.declared.command.Step.{Step}
 use Rattle.machine.specs.State.{blocks_of}
@@ -10,7 +11,7 @@ use Rattle.explorer.specs.declared.parts.Parts.{Parts}
 use Rattle.explorer.specs.declared.parts.Row.{Row}
 use Rattle.explorer.specs.declared.choice.Choice.{Choice}
 use Rattle.explorer.specs.declared.choice.Choice.TheVariants.{Any}
-use Rattle.explorer.specs.Lines.{outcome_text}
+use Rattle.explorer.specs.Lines.{tells_busy, outcome_text}
 use Rattle.explorer.specs.Work.{Point, AllGoOn, Works, ready_in}
 
 -- the device before the setup
@@ -49,8 +50,8 @@ pub record Reaches (choice : Choice) (parts : Parts) (run : Run) (steps : List S
   pub said_is : said ≡ first_answers ++ work_answers
 
 -- the run is an order of the work, and this is its outcome: no actor is ready at its end, the looks are carried out there, and all these steps are a schedule of the
--- plain machine. (Excludes looks before the last turn.)
-pub record IsOutcome (choice : Choice) (parts : Parts) (run : Run) (outcome : List ℕ) : Type 0 where
+-- plain machine. In the work a command met a page in transfer, or none did. (Excludes looks before the last turn.)
+pub record IsOutcome (choice : Choice) (parts : Parts) (run : Run) (busy : Bool) (outcome : List ℕ) : Type 0 where
   pub steps : List Step
   pub answers : List Told_by
   pub said : List Told_by
@@ -62,4 +63,5 @@ pub record IsOutcome (choice : Choice) (parts : Parts) (run : Run) (outcome : Li
   pub looks : Runs point.world parts.looks.items looked end
   pub schedules : Schedules parts.config (disk_of parts) (steps ++ parts.looks.items) (answers ++ looked) end.disk
   pub ends : schedules.end ≡ end
+  pub busy_is : busy ≡ list_any tells_busy said
   pub outcome_is : outcome ≡ outcome_text parts.rows.items said looked

@@ -1,17 +1,20 @@
 //! A machine that is run once for each order.
 
 ghost use Rattle.std.specs.Prelude.{◌≡◌, ◌<◌, ◌^◌, [], true, length, List, IfOk, OnOk};
+ghost use Rattle.std.specs.Option.{option_map};
+ghost use Rattle.std.specs.String.{string_bytes};
 ghost use Rattle.orders.specs.Runs.{Run};
 ghost use Rattle.machine.specs.State.{is_config};
 ghost use Rattle.driver.specs.Schedule.{first_world, fits};
 ghost use Rattle.explorer.specs.Outcome.{disk_of, choice_in};
+ghost use Rattle.explorer.specs.Tally.{IsAdded};
 ghost use Rattle.explorer.specs.Explored.{findings, Explored, Sampled};
-ghost use Rattle.explorer.specs.Explorers.{Starts, LooksAt, IsAt, Gathers, eligible_now};
+ghost use Rattle.explorer.specs.Explorers.{Starts, LooksAt, IsAt, Gathers, IsHandedOn, eligible_now};
 ghost use Rattle.explorer.specs.Turns.{Keeps};
 
 use crate::choice::Choice;
 use crate::copies::copy_of_config;
-use crate::outcome::outcome_of;
+use crate::outcome::kept_outcome;
 use crate::parts::Parts;
 use crate::plan::{all_go_on, carry_out, eligible_of, take_turn};
 use crate::table::Table;
@@ -79,6 +82,28 @@ fn look(run: Stepper<MemDevice>, looks: &[Step], looked: &mut Vec<Reply>) -> Res
     result
 }
 
+/// Counts an order, by its outcome if it has one, and otherwise as one that is left out.
+fn count(
+    table: &mut Table,
+    left_out: &mut u64,
+    outcome: Option<String>,
+    path: &[u32],
+) -> Result<(), AllocError>
+    ensures { OnOk result (IsAdded (option_map string_bytes outcome) path.now table.old left_out.old table.new left_out.new) }
+{
+    match outcome {
+        Some(outcome) => table.add(outcome, path),
+        None => {
+            // No exploration has 2^64 orders.
+            let Some(more) = left_out.checked_add(1) else {
+                return Err(AllocError);
+            };
+            *left_out = more;
+            Ok(())
+        }
+    }
+}
+
 /// A machine that is run once for each order of its actors' turns. It counts the outcomes.
 ///
 /// It must be spent, by [`Explorer::close`].
@@ -88,6 +113,8 @@ struct Explorer<'p> {
     parts: &'p Parts,
     /// Who can take the next turn.
     choice: Choice,
+    /// Whether commands wait for the end of a transfer.
+    waits: bool,
     /// The current order's run.
     run: Option<Stepper<MemDevice>>,
     /// For each row, how many of its lines were begun.
@@ -97,6 +124,8 @@ struct Explorer<'p> {
     /// The actors that took the turns.
     path: Vec<u32>,
     table: Table,
+    /// How many orders are left out so far.
+    left_out: u64,
     /// The number of turns of the shortest order so far.
     shortest: usize,
     /// That of the longest.
@@ -108,12 +137,14 @@ struct Explorer<'p> {
 
 impl<'p> Explorer<'p> {
     /// Nothing was run yet.
-    fn new(alloc: Global, parts: &'p Parts, choice: Choice) -> Result<Self, AllocError>
+    fn new(alloc: Global, parts: &'p Parts, choice: Choice, waits: bool) -> Result<Self, AllocError>
         requires limits { is_config parts.now.config ≡ true }
         requires few { length parts.now.rows.items < 2 ^ 32 }
         ensures parts { IfOk result (λ new. new.parts.now ≡ parts.now) }
         ensures choice { IfOk result (λ new. new.choice ≡ choice) }
+        ensures waits { IfOk result (λ new. new.waits ≡ waits) }
         ensures table { IfOk result (λ new. new.table ≡ []) }
+        ensures left_out { IfOk result (λ new. new.left_out ≡ 0) }
         ensures turns { IfOk result (λ new. Keeps [] new.shortest new.longest) }
     {
         let mut begun = Vec::new(alloc);
@@ -122,36 +153,47 @@ impl<'p> Explorer<'p> {
             alloc,
             parts,
             choice,
+            waits,
             run: None,
             begun,
             said: Vec::new(alloc),
             path: Vec::new(alloc),
             table: Table::new(alloc),
+            left_out: 0,
             shortest: usize::MAX,
             longest: 0,
         })
     }
 
-    /// The outcomes, and how long the shortest and the longest order were.
-    fn close(self) -> (Table, usize, usize)
-        ensures table { result.0 ≡ self.entry.table }
-        ensures shortest { result.1 ≡ self.entry.shortest }
-        ensures longest { result.2 ≡ self.entry.longest }
+    /// What was found, if the walk did not fail.
+    fn close<E: Drop>(self, walked: Result<Walk, E>) -> Result<Exploration, E>
+        ensures { IfOk result (IsHandedOn walked self.entry.table self.entry.left_out self.entry.shortest self.entry.longest) }
     {
         let Explorer {
             alloc: _,
             parts: _,
             choice: _,
+            waits: _,
             run,
             begun: _,
             said: _,
             path: _,
             table,
+            left_out,
             shortest,
             longest,
         } = self;
         close_run(run);
-        (table, shortest, longest)
+        match walked {
+            Ok(walk) => Ok(Exploration {
+                walk,
+                table,
+                left_out,
+                shortest,
+                longest,
+            }),
+            Err(error) => Err(error),
+        }
     }
 }
 
@@ -160,9 +202,9 @@ impl<'p> Machine for Explorer<'p> {
 
     ghost may = { λ m ready. ready ≡ eligible_now m.run m.choice m.parts.now.rows.items };
 
-    ghost gathered = { λ m runs. Gathers m.choice m.parts.now runs m.table m.shortest m.longest };
+    ghost gathered = { λ m runs. Gathers m.choice m.parts.now m.waits runs m.table m.left_out m.shortest m.longest };
 
-    ghost stays = { λ a b. (b.parts.now ≡ a.parts.now) × (b.choice ≡ a.choice) };
+    ghost stays = { λ a b. (b.parts.now ≡ a.parts.now) × (b.choice ≡ a.choice) × (b.waits ≡ a.waits) };
 
     fn begin(&mut self) -> Result<(), AllocError> {
         let mut run = open_run(self.alloc, self.parts)?;
@@ -197,8 +239,9 @@ impl<'p> Machine for Explorer<'p> {
         };
         let mut looked = Vec::new(self.alloc);
         look(run, &self.parts.looks, &mut looked)?;
-        let outcome = outcome_of(self.alloc, &self.parts.rows, &self.said, &looked)?;
-        self.table.add(outcome, &self.path)?;
+        let rows = &self.parts.rows;
+        let outcome = kept_outcome(self.alloc, self.waits, rows, &self.said, &looked)?;
+        count(&mut self.table, &mut self.left_out, outcome, &self.path)?;
         let turns = self.path.len();
         self.shortest = self.shortest.min(turns);
         self.longest = self.longest.max(turns);
@@ -207,16 +250,19 @@ impl<'p> Machine for Explorer<'p> {
 
     ghost use Rattle.std.proofs.Common.{refl, ◌∙◌};
 
-    ghost same = { λ m. (refl, refl) };
+    ghost same = { λ m. (refl, refl, refl) };
 
-    ghost further = { λ a b c first second. (second.0 ∙ first.0, second.1 ∙ first.1) };
+    ghost further = { λ a b c first second. (second.0 ∙ first.0, second.1 ∙ first.1, second.2 ∙ first.2) };
 }
 
 /// What was found of the orders.
 #[derive(Drop)]
 pub struct Exploration {
     pub walk: Walk,
+    /// The outcomes of the orders that are not left out.
     pub table: Table,
+    /// How many orders are left out.
+    pub left_out: u64,
     /// The number of turns of the shortest order.
     pub shortest: usize,
     /// That of the longest.
@@ -227,50 +273,45 @@ pub struct Exploration {
 /// begins with a new machine. The choice says which orders these are. If a call of the device can fail, they are all,
 /// whatever the choice.
 ///
+/// If commands wait, an order in which one meets a page in transfer is run and left out: it has no outcome. As the turn at
+/// which it meets the page changes nothing else, the others have all outcomes of a machine in which it waits there for the
+/// end of the transfer.
+///
 /// It fails if memory runs out, or with `Changed` if other actors were ready than before after the same turns.
 pub fn explore(
     alloc: Global,
     parts: &Parts,
     choice: Choice,
+    waits: bool,
     turns: u32,
     orders: u64,
 ) -> Result<Exploration, Fault>
     requires limits { is_config parts.now.config ≡ true }
     requires few { length parts.now.rows.items < 2 ^ 32 }
-    ensures { IfOk result (λ found. Explored (choice_in parts.now choice) parts.now turns orders found.walk (findings found)) }
+    ensures { IfOk result (λ found. Explored (choice_in parts.now choice) parts.now waits turns orders found.walk (findings found)) }
 {
-    let mut explorer = Explorer::new(alloc, parts, parts.choice(choice))?;
+    let mut explorer = Explorer::new(alloc, parts, parts.choice(choice), waits)?;
     let walked = walk_all(alloc, &mut explorer, turns as usize, orders);
-    let (table, shortest, longest) = explorer.close();
-    Ok(Exploration {
-        walk: walked?,
-        table,
-        shortest,
-        longest,
-    })
+    explorer.close(walked)
 }
 
 /// Runs the machine for this number of orders of the work, each of at most `turns` turns. At each point of an order one of
-/// the actors that can take the next turn is drawn at random. The same seed draws the same orders.
+/// the actors that can take the next turn is drawn at random. The same seed draws the same orders. The rest is as in
+/// [`explore`].
 pub fn sample(
     alloc: Global,
     parts: &Parts,
     choice: Choice,
+    waits: bool,
     turns: u32,
     orders: u64,
     seed: u64,
 ) -> Result<Exploration, AllocError>
     requires limits { is_config parts.now.config ≡ true }
     requires few { length parts.now.rows.items < 2 ^ 32 }
-    ensures { IfOk result (λ found. Sampled (choice_in parts.now choice) parts.now turns orders found.walk (findings found)) }
+    ensures { IfOk result (λ found. Sampled (choice_in parts.now choice) parts.now waits turns orders found.walk (findings found)) }
 {
-    let mut explorer = Explorer::new(alloc, parts, parts.choice(choice))?;
+    let mut explorer = Explorer::new(alloc, parts, parts.choice(choice), waits)?;
     let walked = walk_some(alloc, &mut explorer, turns as usize, orders, seed);
-    let (table, shortest, longest) = explorer.close();
-    Ok(Exploration {
-        walk: walked?,
-        table,
-        shortest,
-        longest,
-    })
+    explorer.close(walked)
 }

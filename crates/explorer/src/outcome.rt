@@ -1,11 +1,13 @@
 //! The outcome of an order: what is printed of it.
 
-ghost use Rattle.std.specs.Prelude.{◌≡◌, ◌++◌, ◌↔◌, filter, flat_map, IsTrue, IfOk, OnOk};
+ghost use Rattle.std.specs.Prelude.{◌≡◌, ◌++◌, ◌↔◌, ◌&&◌, filter, flat_map, IsTrue, Some, None, IfOk, OnOk, if◌then◌else◌};
+ghost use Rattle.std.specs.Option.{option_map};
+ghost use Rattle.std.specs.List.{list_any};
 ghost use Rattle.std.specs.String.{string_bytes};
-ghost use Rattle.explorer.specs.Lines.{is_kill, answers_to, tells_kill, lines_of, lines_for, outcome_text};
+ghost use Rattle.explorer.specs.Lines.{is_kill, tells_busy, answers_to, tells_kill, lines_of, lines_for, outcome_text};
 
 use crate::parts::Row;
-use machine::command::{Actor, Answer, Reply};
+use machine::command::{Actor, Answer, Reply, Word};
 use scripts::number_of;
 use std::alloc::{AllocError, Global};
 
@@ -16,6 +18,21 @@ fn is_kill(answer: &Answer) -> bool
     match answer {
         Answer::Kill(_) | Answer::KillAll { .. } => true,
         Answer::Byte(_) | Answer::Text(_) | Answer::Done | Answer::Word(_) => false,
+    }
+}
+
+/// Whether the answer is that its command meets a page in transfer.
+fn tells_busy(reply: &Reply) -> bool
+    ensures { result ≡ tells_busy reply.now }
+{
+    match &reply.answer {
+        Answer::Word(Word::Busy) => true,
+        Answer::Word(_)
+        | Answer::Byte(_)
+        | Answer::Text(_)
+        | Answer::Done
+        | Answer::Kill(_)
+        | Answer::KillAll { .. } => false,
     }
 }
 
@@ -71,7 +88,7 @@ fn add_rows(text: &mut String, rows: &[Row], said: &[Reply]) -> Result<(), Alloc
 }
 
 /// The lines of an outcome: each actor's answers in their order, then the kills, then what the looks show.
-pub fn outcome_of(
+fn outcome_of(
     alloc: Global,
     rows: &[Row],
     said: &[Reply],
@@ -84,4 +101,28 @@ pub fn outcome_of(
     add_kills(&mut text, said)?;
     add_all(&mut text, looked)?;
     Ok(text)
+}
+
+/// Whether a command meets a page in transfer.
+fn any_busy(said: &[Reply]) -> bool
+    ensures { result ≡ list_any tells_busy said.now }
+{
+    said.iter().any(tells_busy)
+}
+
+/// The lines of an outcome, if the order is not left out: commands wait for the end of a transfer, and in this order one
+/// did not.
+pub fn kept_outcome(
+    alloc: Global,
+    waits: bool,
+    rows: &[Row],
+    said: &[Reply],
+    looked: &[Reply],
+) -> Result<Option<String>, AllocError>
+    ensures { IfOk result (λ kept. option_map string_bytes kept ≡ (if waits && list_any tells_busy said.now then None else Some (outcome_text rows.now said.now looked.now))) }
+{
+    if waits && any_busy(said) {
+        return Ok(None);
+    }
+    Ok(Some(outcome_of(alloc, rows, said, looked)?))
 }

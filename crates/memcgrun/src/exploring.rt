@@ -34,6 +34,7 @@ fn asked_of(exploration: &Exploration<'_>) -> Asked {
         sample: sample_of(exploration),
         turns: exploration.turns.unwrap_or(usual.turns),
         choice: choice_of(exploration),
+        waits: exploration.waits,
         placement: exploration.placement,
         show: exploration.show,
     }

@@ -4,6 +4,7 @@
 #![tactic(auto)]
 
 use explore::{Asked, Choice, Sample, Verdict, explore_script};
+use scripts::lines::as_text;
 use std::alloc::Global;
 use std::fs::File;
 use std::io::{ErrorKind, Read, Write};
@@ -112,7 +113,65 @@ fn check_sample<W: Write>(
     Ok(())
 }
 
-/// Explores a race. A line has its number of outcomes with device calls first, and that of every order.
+/// Adds an outcome with the next number, unless a command was answered `busy`.
+fn add_kept(text: &mut String, number: usize, outcome: &str) -> io::Result<usize> {
+    let Some((_, rest)) = outcome.split_once(": ") else {
+        return Ok(number);
+    };
+    if rest.lines().any(|line| line.ends_with("busy")) {
+        return Ok(number);
+    }
+    let next = number.saturating_add(1);
+    writeln!(text, "outcome {next}: {rest}")?;
+    Ok(next)
+}
+
+/// The outcomes of a list in which no command was answered `busy`, numbered anew.
+fn kept_of(alloc: Global, listed: &str) -> io::Result<String> {
+    let mut text = String::new(alloc);
+    let mut outcome = String::new(alloc);
+    let mut number = 0;
+    for line in listed.lines().skip(1) {
+        if line.starts_with("outcome ") {
+            number = add_kept(&mut text, number, outcome.trim_end())?;
+            outcome.clear();
+        }
+        writeln!(outcome, "{line}")?;
+    }
+    add_kept(&mut text, number, outcome.trim_end())?;
+    Ok(text)
+}
+
+/// Explores a race whose commands wait. The list has the outcomes in which no command was answered `busy`, with the same
+/// numbers of orders. A line says if it has not. The result is the number of outcomes.
+fn check_waiting<W: Write>(
+    alloc: Global,
+    name: &str,
+    script: &[u8],
+    listed: &[u8],
+    out: &mut W,
+) -> io::Result<usize> {
+    let asked = Asked {
+        waits: true,
+        ..Asked::default()
+    };
+    let Some((found, outcomes)) = explored(alloc, asked, script) else {
+        return Err(ErrorKind::Other.into());
+    };
+    let (Some(found), Some(listed)) = (as_text(&found), as_text(listed)) else {
+        return Err(ErrorKind::Other.into());
+    };
+    let kept = kept_of(alloc, listed)?;
+    let (first, rest) = found.split_once('\n').unwrap_or((found, ""));
+    if rest != kept.as_str() || !first.contains(" without `busy` ha") {
+        writeln!(out, "{name}: other outcomes if commands wait")?;
+        out.write_all(found.as_bytes())?;
+    }
+    Ok(outcomes)
+}
+
+/// Explores a race. A line has its number of outcomes with device calls first, that of every order, and that of the orders
+/// in which commands wait.
 fn explore_race<R: Files + AllocGlobal, W: Write>(
     rt: &R,
     name: &str,
@@ -126,7 +185,12 @@ fn explore_race<R: Files + AllocGlobal, W: Write>(
         ..Asked::default()
     };
     let every = compare(rt, asked, name, ".every", &script, out)?;
-    writeln!(out, "{name}: outcomes {outcomes}, with --every {every}")?;
+    let listed = read(rt, name, ".outcomes")?;
+    let waiting = check_waiting(alloc, name, &script, &listed, out)?;
+    writeln!(
+        out,
+        "{name}: outcomes {outcomes}, with --every {every}, with --wait {waiting}"
+    )?;
     check_sample(alloc, name, &script, outcomes, out)?;
     check_shown(alloc, name, &script, outcomes, out)
 }

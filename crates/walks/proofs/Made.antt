@@ -1,9 +1,10 @@
 -- What was gathered after another run.
-use Rattle.std.proofs.Common.{◌≡◌, ℕ, ◌+◌, ◌<◌, List, [], ◌∷◌, ◌++◌, map, length, refl, ap, sym, ◌∙◌, subst, arith, length-append}
+use Rattle.std.proofs.Common.{◌≡◌, ℕ, suc, ◌+◌, ◌<◌, List, [], ◌∷◌, ◌++◌, map, length, refl, ap, sym, ◌∙◌, subst, arith, length-append}
 use Rattle.std.proofs.lemmas.List.{length-map}
 use Rattle.orders.specs.Paths.{paths}
-use Rattle.orders.specs.Course.{Course, left}
-use Rattle.orders.specs.Runs.{Run, path_of_run, turns, AreAllRuns, IsWalk, IsWithin}
+use Rattle.orders.specs.declared.point.Point.{Point}
+use Rattle.orders.specs.Course.{Course, path_of, left}
+use Rattle.orders.specs.Runs.{Run, path_of_run, turns, turns_at, AreAllRuns, IsWalk, IsWithin}
 use Rattle.orders.proofs.Walk.{left_from-some}
 use Rattle.walks.specs.Walks.{MadeAll, MadeSome, MadeSoFar}
 
@@ -21,10 +22,16 @@ pub all-made : {M : Type 0} (gathered : M → List Run → Type 0) (old new : M)
 all-made gathered old new depth count before after m on gathers done =
     record { runs = m.runs ++ turns after ∷ []; all = done m.runs (on m.runs m.walk); count_is = one_more m.runs (turns after) count m.count_is; gathers = gathers m.runs m.gathers }
 
+-- as many turns as actors that took them
+pub turns-many : (points : List Point) → length (turns_at points) ≡ length (path_of points)
+turns-many [] = refl
+turns-many (point ∷ points) = ap (λ (n : ℕ). suc n) (turns-many points)
+
 pub some-made : {M : Type 0} (gathered : M → List Run → Type 0) (machine : M) (depth count : ℕ) (course : Course) → turns course ≡ [] → MadeSoFar gathered machine depth count course → MadeSome gathered machine depth count
 some-made gathered machine depth count course begins m =
     record {
       runs = m.runs;
+      runs_are = m.walk.came_by.runs_are;
       count_is = m.count_is;
       gathers = m.gathers;
       more = λ tree each.

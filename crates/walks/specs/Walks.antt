@@ -2,7 +2,7 @@
 use Rattle.std.specs.Prelude.{◌≡◌, ℕ, ◌+◌, ◌<◌, ◌≤◌, List, [], ◌∷◌, ◌++◌, length, All as Each}
 use Rattle.orders.specs.Paths.{Tree, paths}
 use Rattle.orders.specs.Course.{Course, taken, IsThrough}
-use Rattle.orders.specs.Runs.{Run, turns, IsRun, AreAllRuns, IsWalk}
+use Rattle.orders.specs.Runs.{Run, turns, IsRun, AreAllRuns, AreRuns, IsWalk}
 use Rattle.walks.specs.declared.Walk.{Walk}
 use Rattle.walks.specs.declared.Walk.TheVariants.{All, Stopped, TooDeep, Sample}
 
@@ -13,19 +13,37 @@ pub record MadeAll {M : Type 0} (gathered : M → List Run → Type 0) (machine 
   pub count_is : length runs ≡ count
   pub gathers : gathered machine runs
 
--- this many runs were made and gathered, and every tree of which they are runs has more. (Excludes a walk that stops early, and one that says so although
+-- this many runs were made and gathered, each once, and every tree of which they are runs has more. (Excludes a walk that stops early, and one that says so although
 -- all runs were made.)
 pub record MadeSome {M : Type 0} (gathered : M → List Run → Type 0) (machine : M) (depth count : ℕ) : Type 0 where
   pub runs : List Run
+  pub runs_are : AreRuns runs
   pub count_is : length runs ≡ count
   pub gathers : gathered machine runs
   pub more : (tree : Tree) → Each (IsRun tree) runs → count < length (paths depth tree)
 
-abbrev pub IsWalked : {M : Type 0} → (M → List Run → Type 0) → M → ℕ → ℕ → Walk → Type 0
-IsWalked gathered machine depth most (All count) = MadeAll gathered machine depth count
-IsWalked gathered machine depth most Stopped = MadeSome gathered machine depth most
-IsWalked gathered machine depth most TooDeep = (runs : List Run) × (length runs < most) × gathered machine runs
-IsWalked gathered machine depth most (Sample count) = ⊥
+-- the machine's run has had this many turns, and some actor is ready still. (Excludes a shorter run, and one that is over.)
+pub record IsCut {M : Type 0} (came : M → Run → Type 0) (may : M → List ℕ → Type 0) (machine : M) (depth : ℕ) : Type 0 where
+  pub run : Run
+  pub ready : List ℕ
+  pub comes : came machine run
+  pub count_is : length run ≡ depth
+  pub may_be : may machine ready
+  pub some : ready ≡ [] → ⊥
+
+-- fewer runs than this were made and gathered, each once, and then one was cut
+pub record MadeUntil {M : Type 0} (came : M → Run → Type 0) (may : M → List ℕ → Type 0) (gathered : M → List Run → Type 0) (machine : M) (depth most : ℕ) : Type 0 where
+  pub runs : List Run
+  pub runs_are : AreRuns runs
+  pub fewer : length runs < most
+  pub gathers : gathered machine runs
+  pub cut : IsCut came may machine depth
+
+abbrev pub IsWalked : {M : Type 0} → (M → Run → Type 0) → (M → List ℕ → Type 0) → (M → List Run → Type 0) → M → ℕ → ℕ → Walk → Type 0
+IsWalked came may gathered machine depth most (All count) = MadeAll gathered machine depth count
+IsWalked came may gathered machine depth most Stopped = MadeSome gathered machine depth most
+IsWalked came may gathered machine depth most TooDeep = MadeUntil came may gathered machine depth most
+IsWalked came may gathered machine depth most (Sample count) = ⊥
 
 -- ---- a sample
 
@@ -40,11 +58,18 @@ pub record Draws {M : Type 0} (gathered : M → List Run → Type 0) (machine : 
   pub short : AreShort depth runs
   pub gathers : gathered machine runs
 
-abbrev pub IsSampled : {M : Type 0} → (M → List Run → Type 0) → M → ℕ → ℕ → Walk → Type 0
-IsSampled gathered machine depth most (Sample count) = (count ≡ most) × Draws gathered machine depth most
-IsSampled gathered machine depth most TooDeep = (count : ℕ) × (count < most) × Draws gathered machine depth count
-IsSampled gathered machine depth most (All count) = ⊥
-IsSampled gathered machine depth most Stopped = ⊥
+-- fewer runs than this were drawn, and then one was cut
+pub record DrawsUntil {M : Type 0} (came : M → Run → Type 0) (may : M → List ℕ → Type 0) (gathered : M → List Run → Type 0) (machine : M) (depth most : ℕ) : Type 0 where
+  pub count : ℕ
+  pub fewer : count < most
+  pub draws : Draws gathered machine depth count
+  pub cut : IsCut came may machine depth
+
+abbrev pub IsSampled : {M : Type 0} → (M → Run → Type 0) → (M → List ℕ → Type 0) → (M → List Run → Type 0) → M → ℕ → ℕ → Walk → Type 0
+IsSampled came may gathered machine depth most (Sample count) = (count ≡ most) × Draws gathered machine depth most
+IsSampled came may gathered machine depth most TooDeep = DrawsUntil came may gathered machine depth most
+IsSampled came may gathered machine depth most (All count) = ⊥
+IsSampled came may gathered machine depth most Stopped = ⊥
 
 -- ---- on the way
 

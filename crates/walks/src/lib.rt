@@ -10,7 +10,7 @@ ghost use Rattle.std.specs.Prelude.{◌≡◌, ℕ, ◌+◌, ◌-◌, ◌<◌, �
 ghost use Rattle.std.specs.List.Sorted.{IsStrictlyIncreasing};
 ghost use Rattle.orders.specs.Course.{Course, taken, IsThrough};
 ghost use Rattle.orders.specs.Runs.{Run, turns, IsWalk, AreAllRuns};
-ghost use Rattle.walks.specs.Walks.{IsWalked, Goes, Ends};
+ghost use Rattle.walks.specs.Walks.{IsWalked, IsCut, Goes, Ends};
 
 use orders::{Fault, Orders};
 pub use sample::walk_some;
@@ -67,7 +67,7 @@ pub enum Walk {
     All(u64),
     /// As many runs were made as the caller allowed, and there are more.
     Stopped,
-    /// A run had more turns than the caller allowed.
+    /// A run has more turns than the caller allowed.
     TooDeep,
     /// This number of runs was drawn at random. There may be others.
     Sample(u64),
@@ -84,7 +84,7 @@ pub fn walk_all<M: Machine>(
     most: u64,
 ) -> Result<Walk, Fault>
     requires { M.gathered machine.old [] }
-    ensures walked { IfOk result (IsWalked M.gathered machine.new depth most) }
+    ensures walked { IfOk result (IsWalked M.came M.may M.gathered machine.new depth most) }
     ensures stays { OnOk result (M.stays machine.old machine.new) }
 {
     let mut orders = Orders::open(alloc);
@@ -112,7 +112,8 @@ fn run<M: Machine>(
     ensures through { result ≡ Ok true → IsThrough orders.new }
     ensures walks { result ≡ Ok true → (runs : List Run) → IsWalk depth runs orders.old → IsWalk depth runs orders.new }
     ensures gathered { result ≡ Ok true → (runs : List Run) → M.gathered machine.old runs → M.gathered machine.new (runs ++ turns orders.new ∷ []) }
-    ensures too_deep { result ≡ Ok false → (runs : List Run) → M.gathered machine.old runs → M.gathered machine.new runs }
+    ensures cut { result ≡ Ok false → IsCut M.came M.may machine.new depth }
+    ensures kept { result ≡ Ok false → (runs : List Run) → M.gathered machine.old runs → M.gathered machine.new runs }
     ensures stays { OnOk result (M.stays machine.old machine.new) }
 {
     machine.begin()?;
@@ -148,7 +149,8 @@ fn go_on<M: Machine>(alloc: Global, machine: &mut M, orders: &mut Orders) -> Res
 fn end<M: Machine>(alloc: Global, machine: &mut M, orders: &mut Orders) -> Result<bool, Fault>
     requires { M.came machine.old (turns orders.old) }
     ensures ends { result ≡ Ok true → Ends M.gathered machine.old machine.new orders.old orders.new }
-    ensures too_deep { result ≡ Ok false → machine.new ≡ machine.old }
+    ensures cut { result ≡ Ok false → IsCut M.came M.may machine.new (length (turns orders.old)) }
+    ensures kept { result ≡ Ok false → machine.new ≡ machine.old }
     ensures stays { OnOk result (M.stays machine.old machine.new) }
 {
     let ready = machine.ready(alloc)?;

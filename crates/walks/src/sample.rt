@@ -2,7 +2,7 @@
 
 ghost use Rattle.std.specs.Prelude.{◌≡◌, ℕ, ◌+◌, ◌≤◌, [], List, length, IfOk, OnOk, Ok, true, false};
 ghost use Rattle.orders.specs.Runs.{Run};
-ghost use Rattle.walks.specs.Walks.{IsSampled, Taken, DrawsOne};
+ghost use Rattle.walks.specs.Walks.{IsSampled, IsCut, Taken, DrawsOne};
 
 use crate::{Machine, Walk};
 use rand::seq::IndexedRandom;
@@ -22,7 +22,7 @@ pub fn walk_some<M: Machine>(
     seed: u64,
 ) -> Result<Walk, AllocError>
     requires { M.gathered machine.old [] }
-    ensures sampled { IfOk result (IsSampled M.gathered machine.new depth runs) }
+    ensures sampled { IfOk result (IsSampled M.came M.may M.gathered machine.new depth runs) }
     ensures stays { OnOk result (M.stays machine.old machine.new) }
 {
     let mut chance = Pcg32::seed_from_u64(seed);
@@ -42,7 +42,8 @@ fn draw_run<M: Machine>(
     chance: &mut Pcg32,
 ) -> Result<bool, AllocError>
     ensures drawn { result ≡ Ok true → DrawsOne M.gathered machine.old machine.new depth }
-    ensures too_deep { result ≡ Ok false → (runs : List Run) → M.gathered machine.old runs → M.gathered machine.new runs }
+    ensures cut { result ≡ Ok false → IsCut M.came M.may machine.new depth }
+    ensures kept { result ≡ Ok false → (runs : List Run) → M.gathered machine.old runs → M.gathered machine.new runs }
     ensures stays { OnOk result (M.stays machine.old machine.new) }
 {
     machine.begin()?;

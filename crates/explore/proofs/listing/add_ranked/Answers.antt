@@ -1,4 +1,4 @@
-use Rattle.std.proofs.Common.{◌≡◌, List, ap, ◌∙◌}
+use Rattle.std.proofs.Common.{List, ap, ◌∙◌}
 use Rattle.std.specs.Prelude.{position}
 use Rattle.explore.specs.declared.listing.Listed.{Listed}
 use Rattle.explore.specs.Listed.{shown, shown_rows, is_fewer}

@@ -1,7 +1,7 @@
 use Rattle.std.proofs.Common.{ℕ, List, Some, length, ap, ◌∙◌, subst}
 use Rattle.explore.specs.declared.listing.Listed.{Listed}
-use Rattle.explore.specs.Faults.{IsUnshown}
-use Rattle.explore.proofs.FaultLemmas.{handed_on}
+use Rattle.division.specs.Faults.{IsUnshown}
+use Rattle.division.proofs.FaultLemmas.{handed_on}
 use Rattle.explore.proofs.ListingLemmas.{ranked_len}
 use Rattle.explore.proofs.report.shown_order.Goals as goal
 

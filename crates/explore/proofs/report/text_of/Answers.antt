@@ -1,6 +1,6 @@
 use Rattle.std.proofs.Common.{List, length, ap, sym, ◌∙◌}
 use Rattle.explore.specs.declared.listing.Listed.{Listed}
-use Rattle.explore.proofs.FaultLemmas.{same_count}
+use Rattle.division.proofs.FaultLemmas.{same_count}
 use Rattle.explore.proofs.ListingLemmas.{shown_len}
 use Rattle.explore.proofs.report.text_of.Goals as goal
 

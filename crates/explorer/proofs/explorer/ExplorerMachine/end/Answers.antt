@@ -13,6 +13,6 @@ returns-clause-gathered c =
     let fits : c.len-turns.result < 2 ^ 64 = search rules in
     λ runs run counts h.
     let P : Option World → Type 0 = λ (o : Option World). IsAt o me.choice parts run me.begun.items me.said.items me.path.items in
-    end-gathers me.choice parts runs run me.table c.add.new.self me.shortest me.longest _ _ c.len-turns.result c.in-Some.run' me.begun.items me.said.items _ _ c.look.new.looked.items _ me.path.items _ _ _ _
+    end-gathers me.choice parts me.waits runs run me.table c.count.new.table me.left_out c.count.new.left_out me.shortest me.longest _ _ c.len-turns.result c.in-Some.run' me.begun.items me.said.items _ _ c.look.new.looked.items _ me.path.items _ _ _ _
     counts (subst P there h) (c.requires ∙ ap (λ (o : Option World). eligible_now o me.choice parts.rows.items) there) c.deref.ensures.value c.new-looked.ensures.items c.in_ok-look.ensures
-    c.deref-2.ensures.value c.deref-3.ensures.value c.deref-4.ensures.value c.in_ok-outcome.ensures c.deref-5.ensures.value c.in_ok-add.ensures.counted turns fits c.min-self.ensures c.max-self.ensures
+    c.deref-2.ensures.value c.deref-3.ensures.value c.deref-4.ensures.value c.in_ok-outcome.ensures c.deref-5.ensures.value c.in_ok-count.ensures turns fits c.min-self.ensures c.max-self.ensures
