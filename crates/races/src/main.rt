@@ -126,7 +126,7 @@ fn add_kept(text: &mut String, number: usize, outcome: &str) -> io::Result<usize
     Ok(next)
 }
 
-/// The outcomes of a list in which no command was answered `busy`, numbered anew.
+/// The outcomes of a list in which no command was answered `busy`, with their new numbers.
 fn kept_of(alloc: Global, listed: &str) -> io::Result<String> {
     let mut text = String::new(alloc);
     let mut outcome = String::new(alloc);
