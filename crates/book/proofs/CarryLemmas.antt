@@ -1,5 +1,6 @@
 -- What was decided and done is an answer to every event that the decision is one for.
 use Rattle.std.proofs.Common.{true, Bool, List, cond, not, ◌≡◌, ◌∙◌, ℕ, false, Some, None, refl, sym, ap, subst}
+use Rattle.machine.specs.declared.event.Goal.{Goal}
 use Rattle.machine.specs.declared.id.GroupId.{GroupId}
 use Rattle.machine.specs.declared.id.TaskId.{TaskId}
 use Rattle.machine.specs.declared.id.PageId.{PageId}
@@ -169,20 +170,20 @@ counts-so s target found low = ap (λ (b : Bool). let cs : List EventCounts = co
     by_test true = refl
     by_test false = refl
 
-pub carries-out : (old new : StateOf) (target : GroupId) (found : Served) (ticket : TicketOf) → BeginsWriteOut (with_counted old (counted_for old.tables found)) new target.0 found.group.0 ticket → Carries old (decision.Take target found) (given.Out ticket) new
-carries-out old new target found ticket begins what is =
+pub carries-out : (old new : StateOf) (goal : Goal) (target : GroupId) (found : Served) (ticket : TicketOf) → BeginsWriteOut (with_counted old (counted_for old.tables found)) new goal target.0 found.group.0 ticket → Carries old (decision.Take goal target found) (given.Out ticket) new
+carries-out old new goal target found ticket begins what is =
     record {
-      makes_step = makes_step-out old new (counted_for old.tables found) target.0 found.group.0 ticket begins (counts-so old target found is.sound.4) what is.fits;
+      makes_step = makes_step-out old new (counted_for old.tables found) goal target.0 found.group.0 ticket begins (counts-so old target found is.sound.4) what is.fits.0 is.fits.1;
       gives = (begins.p, begins.label, begins.frame, begins.begins.placed.changed, begins.begins.given, begins.holds);
-      replies = replies-asked old.tables what target.0 (given.Out ticket) is.fits tt tt;
+      replies = replies-asked old.tables what target.0 (given.Out ticket) is.fits.0 tt tt;
     }
 
-pub carries-dropped : (old new : StateOf) (files : FilesOf) (target : GroupId) (found : Served) → AreFiled files old.tables.pages → DropsClean (with_counted old (counted_for old.tables found)) new target.0 found.group.0 → Carries old (decision.Take target found) given.Dropped new
-carries-dropped old new files target found filed drops what is =
+pub carries-dropped : (old new : StateOf) (files : FilesOf) (goal : Goal) (target : GroupId) (found : Served) → AreFiled files old.tables.pages → DropsClean (with_counted old (counted_for old.tables found)) new goal target.0 found.group.0 → Carries old (decision.Take goal target found) given.Dropped new
+carries-dropped old new files goal target found filed drops what is =
     record {
-      makes_step = makes_step-dropped old new (counted_for old.tables found) target.0 found.group.0 (filed-single files old.tables.pages filed) drops (counts-so old target found is.sound.4) what is.fits;
+      makes_step = makes_step-dropped old new (counted_for old.tables found) goal target.0 found.group.0 (filed-single files old.tables.pages filed) drops (counts-so old target found is.sound.4) what is.fits.0 is.fits.1;
       gives = tt;
-      replies = replies-asked old.tables what target.0 given.Dropped is.fits tt tt;
+      replies = replies-asked old.tables what target.0 given.Dropped is.fits.0 tt tt;
     }
 
 pub carries-wait : (s : StateOf) → InOrder s → Carries s decision.Wait given.Wait s

@@ -1,6 +1,8 @@
 -- What a page that comes to stand elsewhere is to the plain machine: transfers that begin and end, and pages that are dropped.
 use Rattle.std.proofs.Common.{List, ◌≡◌, ◌≢◌, ◌⊎◌, inl, inr, ℕ, ◌+◌, ◌≤◌, ◌==◌, ◌&&◌, Bool, true, false, MatchBool, cond, Option, Some, None, refl, sym, ap, subst, ◌∙◌, arith}
 use Rattle.std.specs.Prelude.{IfSome, is_some, slice_index}
+use Rattle.machine.specs.declared.event.Goal.{Goal}
+use Rattle.machine.specs.declared.event.Goal.TheVariants.{Amount}
 use Rattle.machine.specs.declared.id.GroupId.{GroupId}
 use Rattle.machine.specs.declared.event.Cause.{Cause}
 use Rattle.machine.specs.declared.event.Event.{Event}
@@ -14,7 +16,7 @@ use Rattle.machine.specs.State.{State}
 use Rattle.machine.specs.Access.{Meeting, charges, is_fetch}
 use Rattle.machine.specs.Call.{need}
 use Rattle.machine.specs.declared.record.EventCounts.{EventCounts}
-use Rattle.machine.specs.Reclaim.{stands, target_of, is_takeable, has_takeable, counted_at_take}
+use Rattle.machine.specs.Reclaim.{stands, target_of, goal_of, goal_in, is_takeable, has_takeable, counted_at_take}
 use Rattle.machine.proofs.TakeableLemmas.{next-takeable}
 use Rattle.machine.specs.Lists.{Order, Youngest, entry_after, TakesNext, Orders}
 use Rattle.machine.specs.Step.{Step, MeetStep, StartsFetch, StartsLeave, Drops, LeavesBy, Takes, EndsTransfer, or_gone, in_frame, on_block, on_block_of}
@@ -232,10 +234,10 @@ makes_step-fetch old new fault met g p b label ticket is has meeting fetch needs
 -- ---- a write-out begins
 
 -- a page is taken for the target, whatever asks for it, and whether it is written out or dropped
-module _ (old new : StateOf) (target : ℕ) (answer : Reply) (p : ℕ) (to : Option Page) (some : has_takeable old.tables target ≡ true)
+module _ (old new : StateOf) (goal : Goal) (target : ℕ) (answer : Reply) (p : ℕ) (to : Option Page) (some : has_takeable old.tables target ≡ true)
     (takes : Takes old.tables target answer new.tables)
-    (relief_order : (why : Cause) → target_of why ≡ target → Orders old.tables old.order (event.Relieve why) answer new.tables new.order)
-    (reclaim_order : (h : GroupId) → h.0 ≡ target → Orders old.tables old.order (event.ReclaimOne h) answer new.tables new.order) (ages : AgesByThree old new) (tables : MovesPages old.tables new.tables)
+    (relief_order : (why : Cause) → target_of why ≡ target → goal_of why ≡ goal → Orders old.tables old.order (event.Relieve why) answer new.tables new.order)
+    (reclaim_order : (h : GroupId) → h.0 ≡ target → Amount ≡ goal → Orders old.tables old.order (event.ReclaimOne h) answer new.tables new.order) (ages : AgesByThree old new) (tables : MovesPages old.tables new.tables)
     (placed : Changes old.tables.pages new.tables.pages p to) (others : (q o : ℕ) → q ≢ p → byte_in new.bytes q o ≡ byte_in old.bytes q o) (given : is_refused answer ≡ false) (flights : KeepsFlights old answer new)
     (holders : (spot : Spot) → KnowsSpot new spot → holder new.tables spot ≡ holder old.tables spot)
     (own : (spot : Spot) → holder old.tables spot ≡ Some p → there_and (λ page. is_in_memory page.residence) to ≡ true → (is_known old.tables.pages p ≡ true) × (byte_in new.bytes p (offset_of spot) ≡ byte_in old.bytes p (offset_of spot)))
@@ -254,18 +256,18 @@ module _ (old new : StateOf) (target : ℕ) (answer : Reply) (p : ℕ) (to : Opt
       let two : need old.tables what ≡ 2 = asks-need old.tables what target true asks some in
       omega (arith, more, was, now, two))
 
-  pub makes_step-taken : (what : Event) → AsksPage old.tables what target → MakesStep old what answer new
-  makes_step-taken (event.Relieve why) asks = makes_step-asked (event.Relieve why) asks (relief_order why asks.1) tt (λ spot. refl)
-  makes_step-taken (event.ReclaimOne h) asks = makes_step-asked (event.ReclaimOne h) asks (reclaim_order h asks) tt (λ spot. refl)
-  makes_step-taken other asks = absurd asks
+  pub makes_step-taken : (what : Event) → AsksPage old.tables what target → goal_in what ≡ goal → MakesStep old what answer new
+  makes_step-taken (event.Relieve why) asks wants = makes_step-asked (event.Relieve why) asks (relief_order why asks.1 wants) tt (λ spot. refl)
+  makes_step-taken (event.ReclaimOne h) asks wants = makes_step-asked (event.ReclaimOne h) asks (reclaim_order h asks wants) tt (λ spot. refl)
+  makes_step-taken other asks wants = absurd asks
 
 -- what is counted beside it says nothing of whose turn it is
-next-counted : (old : State) (counted : List EventCounts) (order : Order) (target : ℕ) (new : State) (order' : Order) → TakesNext (record old { counted = counted }) order target new order' → TakesNext old order target new order'
-next-counted old counted order target new order' next =
+next-counted : (old : State) (counted : List EventCounts) (order : Order) (goal : Goal) (target : ℕ) (new : State) (order' : Order) → TakesNext (record old { counted = counted }) order goal target new order' → TakesNext old order goal target new order'
+next-counted old counted order goal target new order' next =
     record { g = next.g; next = next.next; p = next.p; looked = next.looked; picked = next.picked; was = next.was; taken = next.taken; leaves = next.leaves; moves = next.moves }
 
 -- it begins to be written out, where this stands counted
-module _ (old new : StateOf) (counted : List EventCounts) (target g : ℕ) (ticket : TicketOf) (taken : BeginsWriteOut (with_counted old counted) new target g ticket) (counts : counted ≡ counted_at_take old.tables target g) where
+module _ (old new : StateOf) (counted : List EventCounts) (goal : Goal) (target g : ℕ) (ticket : TicketOf) (taken : BeginsWriteOut (with_counted old counted) new goal target g ticket) (counts : counted ≡ counted_at_take old.tables target g) where
   out-some : has_takeable old.tables target ≡ true
   out-some = any-some (is_takeable old.tables target) old.tables.pages taken.p (ap (there_and (is_takeable old.tables target)) taken.stood ∙ next-takeable old.tables target (labelled taken.label (Held taken.frame)) taken.may)
 
@@ -308,22 +310,22 @@ module _ (old new : StateOf) (counted : List EventCounts) (target g : ℕ) (tick
   moved : MovesPages old.tables new.tables
   moved = taken.tables ∙ ap (λ (cs : List EventCounts). record old.tables { pages = new.tables.pages; counted = cs }) (sym (ap (λ (s : State). s.counted) taken.tables))
 
-  turn : TakesNext old.tables old.order target new.tables new.order
-  turn = next-counted old.tables counted old.order target new.tables new.order taken.next
+  turn : TakesNext old.tables old.order goal target new.tables new.order
+  turn = next-counted old.tables counted old.order goal target new.tables new.order taken.next
 
-  pub makes_step-out : (what : Event) → AsksPage old.tables what target → MakesStep old what (reply.Out (record { 0 = ticket.number })) new
-  makes_step-out what asks =
-      makes_step-taken old new target (reply.Out (record { 0 = ticket.number })) taken.p (Some (labelled taken.label (Going taken.frame ticket.block ticket.number))) out-some takes_out
-      (λ why same. subst (λ (t : ℕ). TakesNext old.tables old.order t new.tables new.order) (sym same) turn) (λ h same. subst (λ (t : ℕ). TakesNext old.tables old.order t new.tables new.order) (sym same) turn)
+  pub makes_step-out : (what : Event) → AsksPage old.tables what target → goal_in what ≡ goal → MakesStep old what (reply.Out (record { 0 = ticket.number })) new
+  makes_step-out what asks wants =
+      makes_step-taken old new goal target (reply.Out (record { 0 = ticket.number })) taken.p (Some (labelled taken.label (Going taken.frame ticket.block ticket.number))) out-some takes_out
+      (λ why same one. rw (same, one) turn) (λ h same one. rw (same, one) turn)
       taken.ages moved taken.begins.placed (λ q k other. taken.bytes q k) refl
       (flights-begun old new taken.p ticket.number Out (reply.Out (record { 0 = ticket.number })) refl taken.begins.listed)
       (holders-beside old new moved taken.p (Some (labelled taken.label (Going taken.frame ticket.block ticket.number))) taken.begins.placed (λ f q. sym (ap (holds_page f q) taken.stood)))
       (λ spot is there. (ap (there_and (λ (page : Page). is_in_memory page.residence)) taken.stood, taken.bytes taken.p (offset_of spot)))
       (ap (there_and is_in_transfer) taken.stood)
-      what asks
+      what asks wants
 
 -- it is dropped
-module _ (old new : StateOf) (counted : List EventCounts) (target g : ℕ) (single : IsSingle old.tables.pages) (taken : DropsClean (with_counted old counted) new target g) (counts : counted ≡ counted_at_take old.tables target g) where
+module _ (old new : StateOf) (counted : List EventCounts) (goal : Goal) (target g : ℕ) (single : IsSingle old.tables.pages) (taken : DropsClean (with_counted old counted) new goal target g) (counts : counted ≡ counted_at_take old.tables target g) where
   dropped-some : has_takeable old.tables target ≡ true
   dropped-some = any-some (is_takeable old.tables target) old.tables.pages taken.p (ap (there_and (is_takeable old.tables target)) taken.stood ∙ next-takeable old.tables target (labelled (of_file taken.file taken.q taken.g false) (Held taken.frame)) taken.may)
 
@@ -340,19 +342,19 @@ module _ (old new : StateOf) (counted : List EventCounts) (target g : ℕ) (sing
   gone_pages : MovesPages old.tables new.tables
   gone_pages = taken.tables ∙ ap (λ (cs : List EventCounts). record old.tables { pages = new.tables.pages; counted = cs }) (sym (ap (λ (s : State). s.counted) taken.tables))
 
-  its_turn : TakesNext old.tables old.order target new.tables new.order
-  its_turn = next-counted old.tables counted old.order target new.tables new.order taken.next
+  its_turn : TakesNext old.tables old.order goal target new.tables new.order
+  its_turn = next-counted old.tables counted old.order goal target new.tables new.order taken.next
 
-  pub makes_step-dropped : (what : Event) → AsksPage old.tables what target → MakesStep old what reply.Dropped new
-  makes_step-dropped what asks =
-      makes_step-taken old new target reply.Dropped taken.p None dropped-some takes_away
-      (λ why same. subst (λ (t : ℕ). TakesNext old.tables old.order t new.tables new.order) (sym same) its_turn) (λ h same. subst (λ (t : ℕ). TakesNext old.tables old.order t new.tables new.order) (sym same) its_turn)
+  pub makes_step-dropped : (what : Event) → AsksPage old.tables what target → goal_in what ≡ goal → MakesStep old what reply.Dropped new
+  makes_step-dropped what asks wants =
+      makes_step-taken old new goal target reply.Dropped taken.p None dropped-some takes_away
+      (λ why same one. rw (same, one) its_turn) (λ h same one. rw (same, one) its_turn)
       taken.ages gone_pages taken.drops.gone taken.drops.others refl
       (flights-kept old new reply.Dropped taken.drops.flights)
       (holders-gone old new gone_pages taken.p taken.file taken.q (labelled (of_file taken.file taken.q taken.g false) (Held taken.frame)) single taken.drops.gone taken.stood refl)
       (λ spot is there. unlike false there refl)
       (ap (there_and is_in_transfer) taken.stood)
-      what asks
+      what asks wants
 
 -- ---- transfers end
 

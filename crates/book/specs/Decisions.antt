@@ -18,7 +18,7 @@ use Rattle.machine.specs.Refusals.{refusal, number_refusal, rmdir_refusal}
 use Rattle.machine.specs.declared.record.EventCounts.{EventCounts}
 use Rattle.machine.specs.declared.record.Key.TheVariants as key
 use Rattle.machine.specs.Counts.{with_event}
-use Rattle.machine.specs.Reclaim.{stands, target_of, has_open, has_takeable, has_transfer}
+use Rattle.machine.specs.Reclaim.{stands, target_of, goal_in, has_open, has_takeable, has_transfer}
 use Rattle.machine.specs.declared.id.TaskId.{TaskId}
 use Rattle.oom.specs.declared.Chosen.{Chosen}
 use Rattle.reclaim.specs.declared.cursors.Served.{Served}
@@ -120,7 +120,7 @@ counted_for s found = if found.low_reclaim then with_event s.counted found.group
 abbrev pub IsSound : State → Order → Decision → Type 0
 IsSound s order (decision.Access fault met) = IsFault s fault × MeetsSo s fault met × HasRoomFor s fault
 IsSound s order (decision.Lacks fault why) = IsFault s fault × LacksRoomFor s fault why
-IsSound s order (decision.Take target found) = (is_live s.tree target.0 ≡ true) × (served s order target.0 ≡ Some found.group.0) × (has_takeable s target.0 ≡ true) × (is_live s.tree found.group.0 ≡ true) × (found.low_reclaim ≡ not (has_open s target.0))
+IsSound s order (decision.Take goal target found) = (is_live s.tree target.0 ≡ true) × (served s order goal target.0 ≡ Some found.group.0) × (has_takeable s target.0 ≡ true) × (is_live s.tree found.group.0 ≡ true) × (found.low_reclaim ≡ not (has_open s target.0))
 IsSound s order (decision.Kill limit t) =
     (is_live s.tree limit.0 ≡ true) × IsIdleFor s limit.0 × IsVictim s.tree s.tasks s.page_tables limit.0 (Some t.0) × (kill_group_of s.tree s.flags s.tasks limit.0 t.0 ≡ None)
 IsSound s order (decision.KillAll limit victim h) =
@@ -169,7 +169,7 @@ Fits s what decision.Killed = IsOfKilled s what
 Fits s what (decision.Access fault met) = what ≡ event.Access fault.task fault.place fault.op
 Fits s what (decision.Lacks fault why) = what ≡ event.Access fault.task fault.place fault.op
 Fits s what decision.Room = HasItsRoom s what
-Fits s what (decision.Take target found) = AsksPage s what target.0
+Fits s what (decision.Take goal target found) = AsksPage s what target.0 × (goal_in what ≡ goal)
 Fits s what decision.Wait = (target : ℕ) × AsksPage s what target × (has_takeable s target ≡ false) × (has_transfer s target ≡ true)
 Fits s what decision.Nothing = FindsNothing s what
 Fits s what (decision.Kill limit t) = WantsRoom s what limit.0
@@ -204,7 +204,7 @@ kill_of limit chosen = kill_with limit chosen.victim chosen.group
 -- how many entries of the trace: two where a transfer begins, one of them for its end, or a page is dropped
 abbrev pub entries_for : Decision → ℕ
 entries_for (decision.Access fault (meeting.NeedsFetch from g)) = 2
-entries_for (decision.Take target found) = 2
+entries_for (decision.Take goal target found) = 2
 entries_for other = 1
 
 -- whether it makes something, and so may want memory: a group, a task, or what the bytes of a read-in arrive in

@@ -12,7 +12,7 @@ ghost use Rattle.book.specs.declared.decision.Meeting.TheVariants as meeting;
 
 use crate::decision::{Decision, Meeting, PageFault};
 use crate::event::Reply;
-use machine::event::{Op, Query, Setting};
+use machine::event::{Goal, Op, Query, Setting};
 use machine::id::{FrameId, GroupId, PageId, TaskId};
 use machine::record::{Key, Life};
 use machine::reply::Shown;
@@ -39,7 +39,11 @@ pub fn apply(state: &mut State, alloc: Global, decided: Decision<'_>) -> Result<
         }
         Decision::Lacks(fault, why) => Ok(refuse(state, fault, why)),
         Decision::Room => Ok(Reply::Room),
-        Decision::Take { target, served } => Ok(take(state, target, served)),
+        Decision::Take {
+            goal,
+            target,
+            served,
+        } => Ok(take(state, goal, target, served)),
         Decision::Wait => Ok(Reply::Wait),
         Decision::Nothing => Ok(Reply::Nothing),
         Decision::Kill { limit, task } => Ok(kill(state, limit, task)),
@@ -161,15 +165,15 @@ fn refuse(state: &mut State, fault: PageFault, why: NoRoom) -> Reply
 
 /// Evicts the next page for the target: its write-out begins, or it is dropped. If its group's low protects
 /// it, `low` is counted at the group.
-fn take(state: &mut State, target: GroupId, served: Served) -> Reply
+fn take(state: &mut State, goal: Goal, target: GroupId, served: Served) -> Reply
     requires few { AreFew state.old.tables }
     requires young { AreYoung state.old.order.held }
-    requires sound { IsSound state.old.tables state.old.order (decision.Take target served) }
-    ensures { Carries state.old (decision.Take target served) result state.new }
+    requires sound { IsSound state.old.tables state.old.order (decision.Take goal target served) }
+    ensures { Carries state.old (decision.Take goal target served) result state.new }
 {
     state.is_joined();
     count_low(state, served);
-    match state.take_out(target, served.group) {
+    match state.take_out(goal, target, served.group) {
         Some(ticket) => Reply::Out(ticket),
         None => Reply::Dropped,
     }

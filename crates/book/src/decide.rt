@@ -7,7 +7,7 @@ ghost use Rattle.machine.specs.Tree.{is_live};
 ghost use Rattle.machine.specs.Pages as residence;
 ghost use Rattle.machine.specs.Access.{is_place, charges};
 ghost use Rattle.machine.specs.Tasks.{task_at, lives};
-ghost use Rattle.machine.specs.Reclaim.{stands, target_of};
+ghost use Rattle.machine.specs.Reclaim.{stands, target_of, goal_of};
 ghost use Rattle.machine.specs.declared.refusal.Refusal.{Refusal as Refusal_of};
 ghost use Rattle.machine.specs.Refusals.{refusal, task_refusal, below_target, bars_children, bars_tasks, file_refusal, show_refusal, spawn_refusal, attach_refusal, rmdir_refusal};
 ghost use Rattle.book.specs.MakesStep.{IsAsked};
@@ -16,7 +16,7 @@ ghost use Rattle.book.specs.Decisions.{spot_at, IsFault, Finds, met_by, MeetsSo,
 
 use crate::decision::{Decision, Meeting, PageFault};
 use machine::bytes::PAGE_BYTES;
-use machine::event::{Cause, Event, Op, Place, Query, Setting};
+use machine::event::{Cause, Event, Goal, Op, Place, Query, Setting};
 use machine::id::{FrameId, GroupId, PageId, TaskId};
 use machine::limit::TASK_PAGES;
 use machine::record::Life;
@@ -236,9 +236,13 @@ fn decide_relief<'e>(state: &State, cause: Cause) -> Decision<'e>
     if !is_wanted(state, cause) {
         return Decision::Room;
     }
-    let target = target_of(cause);
-    if let Some(served) = state.next_group(target) {
-        return Decision::Take { target, served };
+    let (goal, target) = (goal_of(cause), target_of(cause));
+    if let Some(served) = state.next_group(goal, target) {
+        return Decision::Take {
+            goal,
+            target,
+            served,
+        };
     }
     if state.has_transfer(target) {
         return Decision::Wait;
@@ -274,8 +278,13 @@ fn decide_reclaim<'e>(state: &State, target: GroupId) -> Result<Decision<'e>, Re
     if !state.tree().is_live(target) {
         return Err(Refusal::NoEntry);
     }
-    if let Some(served) = state.next_group(target) {
-        return Ok(Decision::Take { target, served });
+    let goal = Goal::Amount;
+    if let Some(served) = state.next_group(goal, target) {
+        return Ok(Decision::Take {
+            goal,
+            target,
+            served,
+        });
     }
     if state.has_transfer(target) {
         return Ok(Decision::Wait);
@@ -295,6 +304,16 @@ fn is_wanted(state: &State, cause: Cause) -> bool
             state.tree().is_live(group) && state.limits(group).max.exceeded_by(state.usage(group))
         }
         Cause::Frame => state.free_frames() == 0,
+    }
+}
+
+/// Whether one page is needed, or as many as are too many.
+fn goal_of(cause: Cause) -> Goal
+    ensures { result ≡ goal_of cause }
+{
+    match cause {
+        Cause::Charge(_) | Cause::Frame => Goal::OnePage,
+        Cause::Lower(_) => Goal::Amount,
     }
 }
 

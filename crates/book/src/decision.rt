@@ -3,7 +3,7 @@
 ghost use Rattle.std.specs.Prelude.{◌≡◌};
 ghost use Rattle.book.specs.Decisions.{offset_at, entries_for};
 
-use machine::event::{Op, Place, Query, Setting};
+use machine::event::{Goal, Op, Place, Query, Setting};
 use machine::id::{FrameId, GroupId, PageId, TaskId};
 use page_state::NoRoom;
 use pages::Source;
@@ -66,6 +66,7 @@ pub enum Decision<'e> {
     Room,
     /// A reclaim of the target evicts the next page of this group.
     Take {
+        goal: Goal,
         target: GroupId,
         served: Served,
     },
@@ -134,6 +135,7 @@ impl Decision<'_> {
         match self {
             Decision::Access(_, Meeting::NeedsFetch(_, _)) => 2,
             Decision::Take {
+                goal: _,
                 target: _,
                 served: _,
             } => 2,

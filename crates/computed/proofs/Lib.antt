@@ -8,6 +8,7 @@ mod LowExamples
 mod StepExamples
 mod CallExamples
 mod TurnExamples
+mod AgeExamples
 mod ReliefExamples
 mod LowStepExamples
 mod OomGroupExamples

@@ -2,6 +2,7 @@
 use Rattle.std.proofs.Common.{◌≡◌, ℕ, true, false, Bool, List, [], ◌∷◌, ◌++◌, Option, Some, None, refl}
 use Rattle.machine.specs.declared.amount.Amount.{Amount}
 use Rattle.machine.specs.declared.amount.Amount.TheVariants.{Max, Pages}
+use Rattle.machine.specs.declared.event.Goal.TheVariants as goal
 use Rattle.machine.specs.declared.event.Setting.TheVariants as setting
 use Rattle.machine.specs.declared.event.Query.TheVariants as query
 use Rattle.machine.specs.declared.event.Event.TheVariants as event
@@ -243,27 +244,27 @@ unfolding chain_up chain under_at chain_below effective_along
 one-gives = refl
 
 -- without a low, /p/a is the first to be served
-free-serves : served free (full_order None) 1 ≡ Some 2
+free-serves : served free (full_order None) goal.Amount 1 ≡ Some 2
 unfolding chain_up chain under_at chain_below effective_along preorder_to
 free-serves = refl
 
 -- with it, it is passed over
-one-serves : served one_within (full_order None) 1 ≡ Some 3
+one-serves : served one_within (full_order None) goal.Amount 1 ≡ Some 3
 unfolding chain_up chain under_at chain_below effective_along preorder_to
 one-serves = refl
 
 -- when it is /p/a's turn again, it is passed over again, and /p/b served once more
-one-serves_again : served one_within (full_order (Some 3)) 1 ≡ Some 3
+one-serves_again : served one_within (full_order (Some 3)) goal.Amount 1 ≡ Some 3
 unfolding chain_up chain under_at chain_below effective_along preorder_to
 one-serves_again = refl
 
 -- without its low it would have been served then
-free-serves_turn : served free (full_order (Some 3)) 1 ≡ Some 2
+free-serves_turn : served free (full_order (Some 3)) goal.Amount 1 ≡ Some 2
 unfolding chain_up chain under_at chain_below effective_along preorder_to
 free-serves_turn = refl
 
 -- /p/b, whose turn comes behind /p/a, is passed over as well, and the pass goes round to /p/a
-other-serves : served other_within (full_order (Some 2)) 1 ≡ Some 2
+other-serves : served other_within (full_order (Some 2)) goal.Amount 1 ≡ Some 2
 unfolding chain_up chain under_at chain_below effective_along preorder_to
 other-serves = refl
 
@@ -280,12 +281,12 @@ nested = record free {
 }
 
 -- a reclaim of the root passes over /p, and not over what is below it
-nested-serves : served nested (full_order None) 0 ≡ Some 2
+nested-serves : served nested (full_order None) goal.Amount 0 ≡ Some 2
 unfolding chain_up chain under_at chain_below effective_along preorder_to
 nested-serves = refl
 
 -- a page more is /p's: it is the first to give one then
-nested-serves_more : served (record nested { pages = nested.pages ++ Some (memory 1 (Held 3)) ∷ [] }) (full_order None) 0 ≡ Some 1
+nested-serves_more : served (record nested { pages = nested.pages ++ Some (memory 1 (Held 3)) ∷ [] }) (full_order None) goal.Amount 0 ≡ Some 1
 unfolding chain_up chain under_at chain_below effective_along preorder_to
 nested-serves_more = refl
 
@@ -333,17 +334,17 @@ unfolding chain_up chain under_at
 all-not_beside = refl
 
 -- they give pages in turn, as they do without lows: /p/a
-all-serves : served all_within (full_order None) 1 ≡ Some 2
+all-serves : served all_within (full_order None) goal.Amount 1 ≡ Some 2
 unfolding chain_up chain under_at chain_below effective_along preorder_to
 all-serves = refl
 
 -- /p/b
-all-serves_next : served all_within (full_order (Some 2)) 1 ≡ Some 3
+all-serves_next : served all_within (full_order (Some 2)) goal.Amount 1 ≡ Some 3
 unfolding chain_up chain under_at chain_below effective_along preorder_to
 all-serves_next = refl
 
 -- and /p/a again
-all-serves_again : served all_within (full_order (Some 3)) 1 ≡ Some 2
+all-serves_again : served all_within (full_order (Some 3)) goal.Amount 1 ≡ Some 2
 unfolding chain_up chain under_at chain_below effective_along preorder_to
 all-serves_again = refl
 
@@ -441,7 +442,7 @@ unfolding chain_up chain under_at chain_below effective_along
 target-open = refl
 
 -- so that /p gives it, though it is the turn of /p/a
-target-serves : served with_own (full_order (Some 1)) 1 ≡ Some 1
+target-serves : served with_own (full_order (Some 1)) goal.Amount 1 ≡ Some 1
 unfolding chain_up chain under_at chain_below effective_along preorder_to
 target-serves = refl
 
@@ -477,7 +478,7 @@ unfolding chain_up chain under_at chain_below effective_along
 min-not_next = refl
 
 -- so that /p/b gives a page, though it is within its low
-min-serves : served within_min (full_order None) 1 ≡ Some 3
+min-serves : served within_min (full_order None) goal.Amount 1 ≡ Some 3
 unfolding chain_up chain under_at chain_below effective_along preorder_to
 min-serves = refl
 
@@ -520,7 +521,7 @@ unfolding chain_up chain under_at chain_below effective_along
 moving-none_open = refl
 
 -- so that a page of /p/a is taken
-moving-serves : served moving (full_order None) 1 ≡ Some 2
+moving-serves : served moving (full_order None) goal.Amount 1 ≡ Some 2
 unfolding chain_up chain under_at chain_below effective_along preorder_to
 moving-serves = refl
 

@@ -2,6 +2,7 @@
 use Rattle.std.proofs.Common.{◌≡◌, ◌≢◌, ℕ, zero, suc, ◌<◌, Bool, true, false, List, [], ◌∷◌, length, Some, None, refl, sym, ap, ◌∙◌, subst, arith}
 use Rattle.std.specs.Prelude.{MatchBool}
 use Rattle.machine.specs.declared.event.Cause.TheVariants as cause
+use Rattle.machine.specs.declared.event.Goal.TheVariants.{OnePage, Amount}
 use Rattle.machine.specs.declared.event.Event.{Event}
 use Rattle.machine.specs.declared.event.Event.TheVariants as event
 use Rattle.machine.specs.declared.record.EventCounts.{EventCounts}
@@ -305,7 +306,7 @@ open_order =
       cursors = None ∷ Some 3 ∷ None ∷ None ∷ None ∷ None ∷ [];
     }
 
-takes_next : TakesNext one_within (full_order None) 1 open_taken open_order
+takes_next : TakesNext one_within (full_order None) Amount 1 open_taken open_order
 unfolding chain_up chain under_at chain_below effective_along preorder_to
 takes_next = record {
   g = 3;
@@ -331,14 +332,14 @@ unfolding chain_up chain under_at chain_below effective_along preorder_to
 open-call = record { steps = takes_open; order = takes_next; history = refl; passes = refl }
 
 -- /p/a is the first in order, and yet the page of /p/b leaves, whatever comes after
-open-not_in_turn : (new : State) (order' : Order) → is_held_in new.pages 2 ≡ true → TakesNext one_within (full_order None) 1 new order' → ⊥
+open-not_in_turn : (new : State) (order' : Order) → is_held_in new.pages 2 ≡ true → TakesNext one_within (full_order None) Amount 1 new order' → ⊥
 unfolding chain_up chain under_at chain_below effective_along preorder_to
-open-not_in_turn new order' stays h = unlike (is_held_in new.pages 2) stays (taken_is_picked one_within (full_order None) 1 3 2 looked refl picks new order' h)
+open-not_in_turn new order' stays h = unlike (is_held_in new.pages 2) stays (taken_is_picked one_within (full_order None) Amount 1 3 2 looked refl picks new order' h)
 
 -- and no order comes of it in which /p/a's lists aged, too
-open-not_aged : TakesNext one_within (full_order None) 1 open_taken
+open-not_aged : TakesNext one_within (full_order None) Amount 1 open_taken
     (record open_order { held = record { groups = lists_of (searched 5 3 (listed_at 0 3 ∷ listed_at 1 3 ∷ [])) (searched 5 3 []); marks = no_marks } }) → ⊥
-open-not_aged h = let e : 3 ≡ 5 = ap (λ (o : Order). (gens_at o.held.groups 2).max_seq) (takes_next_alike one_within open_taken (full_order None) open_order _ 1 takes_next h) in absurd (omega (arith, e))
+open-not_aged h = let e : 3 ≡ 5 = ap (λ (o : Order). (gens_at o.held.groups 2).max_seq) (takes_next_alike one_within open_taken (full_order None) open_order _ Amount 1 takes_next h) in absurd (omega (arith, e))
 
 -- ---- the turn where both are within their lows
 
@@ -393,7 +394,7 @@ unfolding chain_up chain under_at chain_below effective_along preorder_to
 low-call_once new call = by_page call.steps.p call.steps.page call.steps.there (left all_within new.state 1 (reply.Out (ticket 9)) call.steps)
   where
     gone : is_held_in new.state.pages 0 ≡ false
-    gone = taken_is_picked all_within (full_order None) 1 2 0 low_looked refl low_picks new.state new.order call.order
+    gone = taken_is_picked all_within (full_order None) OnePage 1 2 0 low_looked refl low_picks new.state new.order call.order
 
     by_page : (p : ℕ) (page : Page) → page_at all_within.pages p ≡ Some page → Left all_within new.state p page (counted_at_take all_within 1 page.group) (reply.Out (ticket 9)) → local new.state.counted 2 key.Low ≡ 1
     by_page zero page there h = ap (λ counted. local counted 2 key.Low) h.counts ∙ sym (ap (λ (x : Page). local (counted_at_take all_within 1 x.group) 2 key.Low) (some_inj there))

@@ -3,6 +3,7 @@ use Rattle.std.proofs.Common.{◌≡◌, ◌≢◌, ℕ, zero, suc, ◌<◌, ◌
 use Rattle.std.specs.Prelude.{codes, option_map}
 use Rattle.std.proofs.lemmas.Bool.{eqb-false}
 use Rattle.machine.specs.declared.config.Placement.TheVariants.{Own}
+use Rattle.machine.specs.declared.event.Goal.TheVariants.{OnePage}
 use Rattle.machine.specs.declared.event.Cause.TheVariants as cause
 use Rattle.machine.specs.declared.event.Op.TheVariants.{Read, Write}
 use Rattle.machine.specs.declared.event.Place.TheVariants.{Virtual}
@@ -354,7 +355,7 @@ takes-1 = record {
 -- not page 0, which came first but is marked, and not page 2, which came later: page 1 leaves, whatever comes after
 takes-not_marked : (new : Past) → is_held_in new.state.pages 1 ≡ true → Called merged_0 caller relieve (reply.Out (ticket 5)) new → ⊥
 unfolding chain_up chain under_at chain_below effective_along preorder_to
-takes-not_marked new stays call = unlike (is_held_in new.state.pages 1) stays (taken_is_picked three merged_0.order 1 1 1 looked_1 refl picks-1 new.state new.order call.order)
+takes-not_marked new stays call = unlike (is_held_in new.state.pages 1) stays (taken_is_picked three merged_0.order OnePage 1 1 1 looked_1 refl picks-1 new.state new.order call.order)
 
 -- had the read not been merged, page 0 would have left, which came first
 picks-not_merged : Picks true (seen_of read_0.order.held 1) (Some 0) (record { gens = searched 5 3 (listed_at 0 3 ∷ listed_at 1 3 ∷ listed_at 2 3 ∷ []); marks = marks_of false false })
@@ -522,7 +523,7 @@ takes-3 = record {
 takes-not_used : (new : Past) → is_held_in new.state.pages 3 ≡ true → Called merged_both caller relieve (reply.Out (ticket 6)) new → ⊥
 unfolding chain_up chain under_at chain_below effective_along preorder_to
 takes-not_used new stays call =
-    unlike (is_held_in new.state.pages 3) stays (taken_is_picked merged_both.state merged_both.order 1 1 3 looked_3 refl picks-3 new.state new.order call.order)
+    unlike (is_held_in new.state.pages 3) stays (taken_is_picked merged_both.state merged_both.order OnePage 1 1 3 looked_3 refl picks-3 new.state new.order call.order)
 
 -- had none been used since, page 2 would have left
 picks-unused : Picks true (seen_of wrote_3.order.held 1) (Some 2) (record { gens = searched 5 3 (listed_at 2 3 ∷ listed_at 0 4 ∷ listed_at 3 5 ∷ []); marks = marks_of false false })

@@ -1,5 +1,6 @@
 -- Examples: what can be reclaimed, from whom, and who is killed where nothing can be.
 use Rattle.std.proofs.Common.{◌≡◌, ℕ, zero, suc, ◌<◌, true, false, [], ◌∷◌, Some, None, refl, arith}
+use Rattle.machine.specs.declared.event.Goal.TheVariants.{Amount}
 use Rattle.machine.specs.declared.event.Cause.TheVariants as cause
 use Rattle.machine.specs.Tree.{chain_up, chain, under_at, chain_below, preorder_to}
 use Rattle.machine.specs.Pages.{Held}
@@ -94,7 +95,7 @@ stands-no_frame = refl
 -- ---- who gives a page
 
 -- /p/a is served again where nobody else has a page to give
-serves-again : served busy (record busy_order { cursors = Some 2 ∷ [] }) 0 ≡ Some 2
+serves-again : served busy (record busy_order { cursors = Some 2 ∷ [] }) Amount 0 ≡ Some 2
 unfolding chain_up chain under_at chain_below effective_along preorder_to
 serves-again = refl
 
@@ -103,17 +104,17 @@ abbrev both : State
 both = record stuck { opening = opening; pages = Some (memory 2 (Held 0)) ∷ Some (memory 3 (Held 1)) ∷ [] }
 
 -- else they give a page in turn
-serves-turn : served both (record busy_order { cursors = Some 2 ∷ [] }) 0 ≡ Some 3
+serves-turn : served both (record busy_order { cursors = Some 2 ∷ [] }) Amount 0 ≡ Some 3
 unfolding chain_up chain under_at chain_below effective_along preorder_to
 serves-turn = refl
 
 -- each target has a cursor of its own
-serves-own_cursor : served both (record busy_order { cursors = Some 2 ∷ None ∷ [] }) 1 ≡ Some 2
+serves-own_cursor : served both (record busy_order { cursors = Some 2 ∷ None ∷ [] }) Amount 1 ≡ Some 2
 unfolding chain_up chain under_at chain_below effective_along preorder_to
 serves-own_cursor = refl
 
 -- nobody has a page to give
-serves-none : served stuck stuck_order 0 ≡ None
+serves-none : served stuck stuck_order Amount 0 ≡ None
 unfolding chain_up chain under_at chain_below effective_along preorder_to
 serves-none = refl
 

@@ -1,6 +1,7 @@
 -- Examples: groups that are removed, what becomes of their pages and lists, and later groups of their paths. What does not come of a removal is shown not to.
 use Rattle.std.proofs.Common.{◌≡◌, ◌≢◌, ℕ, zero, suc, ◌<◌, ◌==◌, ◌&&◌, ◌++◌, Bool, true, false, List, [], ◌∷◌, length, Option, Some, None, refl, sym, ap, ◌∙◌, arith}
 use Rattle.std.specs.Prelude.{codes, option_map}
+use Rattle.machine.specs.declared.event.Goal.TheVariants.{Amount}
 use Rattle.machine.specs.declared.event.Cause.TheVariants as cause
 use Rattle.machine.specs.declared.event.Op.TheVariants.{Read}
 use Rattle.machine.specs.declared.event.Place.TheVariants.{Virtual}
@@ -507,17 +508,17 @@ unfolding preorder_to
 asks-again = refl
 
 -- the group that gives a page is the same as if none was served
-serves-as_none : served removed removed_order 0 ≡ served removed (record removed_order { cursors = none_served }) 0
+serves-as_none : served removed removed_order Amount 0 ≡ served removed (record removed_order { cursors = none_served }) Amount 0
 unfolding chain_up chain under_at chain_below effective_along preorder_to
 serves-as_none = refl
 
 -- for /p, where /p/a was served last, it was the turn of /p/b
-serves-before : served left left_order 1 ≡ Some 3
+serves-before : served left left_order Amount 1 ≡ Some 3
 unfolding chain_up chain under_at chain_below effective_along preorder_to
 serves-before = refl
 
 -- and is that of /p itself, which has the pages now
-serves-after : served removed removed_order 1 ≡ Some 1
+serves-after : served removed removed_order Amount 1 ≡ Some 1
 unfolding chain_up chain under_at chain_below effective_along preorder_to
 serves-after = refl
 

@@ -1,5 +1,6 @@
 -- Examples: the page that is taken in turn, and the order after it. What is not taken, or does not come of it, is shown not to.
 use Rattle.std.proofs.Common.{◌≡◌, ℕ, zero, suc, ◌<◌, true, false, [], ◌∷◌, Some, None, refl, ap, arith}
+use Rattle.machine.specs.declared.event.Goal.TheVariants.{Amount}
 use Rattle.machine.specs.Tree.{chain_up, chain, under_at, chain_below, preorder_to, rank}
 use Rattle.machine.specs.Pages.{Held, Coming, Going, Away, Page, is_held_in}
 use Rattle.machine.specs.Protection.{effective_along}
@@ -45,7 +46,7 @@ two_served two three = record (ordered two three) { cursors = None ∷ Some 2 �
 abbrev pub taken_order : Order
 taken_order = two_served (searched 5 3 (listed_at 0 3 ∷ [])) new_gens
 
-pub takes : TakesNext busy busy_order 1 taken taken_order
+pub takes : TakesNext busy busy_order Amount 1 taken taken_order
 unfolding chain_up chain under_at chain_below effective_along preorder_to
 takes = record {
   g = 2;
@@ -65,16 +66,16 @@ takes = record {
     which (suc (suc p)) = not_new (is_held_in pages (suc (suc p)))
 
 -- no page is taken that came into its frame later: page 1 leaves
-pub takes-not_newer : (new : State) (order' : Order) → TakesNext busy busy_order 1 new order' → is_held_in new.pages 1 ≡ false
+pub takes-not_newer : (new : State) (order' : Order) → TakesNext busy busy_order Amount 1 new order' → is_held_in new.pages 1 ≡ false
 unfolding chain_up chain under_at chain_below effective_along preorder_to
-takes-not_newer = taken_is_picked busy busy_order 1 2 1 looked refl picks
+takes-not_newer = taken_is_picked busy busy_order Amount 1 2 1 looked refl picks
 
 -- no other order comes of it
 abbrev NotLeft : Order → Type 0
-NotLeft other = TakesNext busy busy_order 1 taken other → ⊥
+NotLeft other = TakesNext busy busy_order Amount 1 taken other → ⊥
 
 unlike_order : (other : Order) → (says : Order → ℕ) → (says taken_order ≡ says other → ⊥) → NotLeft other
-unlike_order other says differs h = differs (ap says (takes_next_alike busy taken busy_order taken_order other 1 takes h))
+unlike_order other says differs h = differs (ap says (takes_next_alike busy taken busy_order taken_order other Amount 1 takes h))
 
 abbrev youngest : ℕ → Order → ℕ
 youngest g order = (gens_at order.held.groups g).max_seq
@@ -118,7 +119,7 @@ picks-unmarked = record { times = 0; none_before = λ n less. absurd (omega (ari
 abbrev other_taken : State
 other_taken = with_two (memory 2 (Going 4 0 9)) (memory 2 (Held 5))
 
-takes-unmarked : TakesNext busy front_marked 1 other_taken (two_served (searched 5 3 (listed_at 1 5 ∷ [])) new_gens)
+takes-unmarked : TakesNext busy front_marked Amount 1 other_taken (two_served (searched 5 3 (listed_at 1 5 ∷ [])) new_gens)
 unfolding chain_up chain under_at chain_below effective_along preorder_to
 takes-unmarked = record {
   g = 2;
@@ -137,9 +138,9 @@ takes-unmarked = record {
     which (suc p) = not_new (is_held_in pages (suc p))
 
 -- page 1 is not, whatever comes after
-takes-not_marked : (order' : Order) → TakesNext busy front_marked 1 taken order' → ⊥
+takes-not_marked : (order' : Order) → TakesNext busy front_marked Amount 1 taken order' → ⊥
 unfolding chain_up chain under_at chain_below effective_along preorder_to
-takes-not_marked order' h = unlike (is_held_in taken.pages 0) refl (taken_is_picked busy front_marked 1 2 0 passed refl picks-unmarked taken order' h)
+takes-not_marked order' h = unlike (is_held_in taken.pages 0) refl (taken_is_picked busy front_marked Amount 1 2 0 passed refl picks-unmarked taken order' h)
 
 -- where both are marked, both go to the tail, and page 1 is the first to be old again
 abbrev both_marked : Seen
@@ -189,7 +190,7 @@ turn_order =
       cursors = None ∷ Some 2 ∷ None ∷ None ∷ None ∷ None ∷ [];
     }
 
-takes-turn : TakesNext of_both own_served 1 turn_taken turn_order
+takes-turn : TakesNext of_both own_served Amount 1 turn_taken turn_order
 unfolding chain_up chain under_at chain_below effective_along preorder_to
 takes-turn = record {
   g = 2;
@@ -209,18 +210,18 @@ takes-turn = record {
     which (suc (suc p)) = refl
 
 -- /p's own is not, whatever comes after
-takes-not_own : (order' : Order) → TakesNext of_both own_served 1 (record of_both { pages = Some (memory 1 (Going 4 0 9)) ∷ Some (memory 2 (Held 5)) ∷ [] }) order' → ⊥
+takes-not_own : (order' : Order) → TakesNext of_both own_served Amount 1 (record of_both { pages = Some (memory 1 (Going 4 0 9)) ∷ Some (memory 2 (Held 5)) ∷ [] }) order' → ⊥
 unfolding chain_up chain under_at chain_below effective_along preorder_to
 takes-not_own order' h =
     let after : State = record of_both { pages = Some (memory 1 (Going 4 0 9)) ∷ Some (memory 2 (Held 5)) ∷ [] } in
-    unlike (is_held_in after.pages 1) refl (taken_is_picked of_both own_served 1 2 1 turned refl picks-turn after order' h)
+    unlike (is_held_in after.pages 1) refl (taken_is_picked of_both own_served Amount 1 2 1 turned refl picks-turn after order' h)
 
 -- and its lists do not age
-takes-not_target_aged : TakesNext of_both own_served 1 turn_taken
+takes-not_target_aged : TakesNext of_both own_served Amount 1 turn_taken
     (record turn_order { held = record { groups = new_gens ∷ searched 5 3 (listed_at 0 3 ∷ []) ∷ searched 5 3 [] ∷ new_gens ∷ new_gens ∷ new_gens ∷ []; marks = no_marks } }) → ⊥
-takes-not_target_aged h = let e : 3 ≡ 5 = ap (youngest 1) (takes_next_alike of_both turn_taken own_served turn_order _ 1 takes-turn h) in absurd (omega (arith, e))
+takes-not_target_aged h = let e : 3 ≡ 5 = ap (youngest 1) (takes_next_alike of_both turn_taken own_served turn_order _ Amount 1 takes-turn h) in absurd (omega (arith, e))
 
 -- the next time it is /p/b's turn, which has no page, and so the target's own
-serves-own : served turn_taken turn_order 1 ≡ Some 1
+serves-own : served turn_taken turn_order Amount 1 ≡ Some 1
 unfolding chain_up chain under_at chain_below effective_along preorder_to
 serves-own = refl

@@ -4,7 +4,6 @@ pub mod Keeps
 pub mod MarkLemmas
 pub mod CallCases
 pub mod Tickets
-pub mod HandLemmas
 pub mod Faithful
 pub mod HitLemmas
 pub mod SeatLists

@@ -4,3 +4,4 @@ pub mod TurnLemmas
 pub mod AgeLemmas
 pub mod KeptLemmas
 pub mod SoundLemmas
+pub mod FileLemmas

@@ -2,8 +2,10 @@
 #![tactic(auto)]
 
 mod choice;
+mod files;
 mod found;
 mod search;
 
 pub use choice::pick;
+pub use files::has_old_file;
 pub use found::Pick;

@@ -62,6 +62,14 @@ impl HeldPages {
         &self.gens
     }
 
+    /// Which pages are marked as accessed.
+    pub fn marks(&self) -> &MarkSet
+        ensures marks { result.now ≡ self.now.lists.marks }
+        ensures size { length result.now ≡ self.now.numbers }
+    {
+        &self.marks
+    }
+
     /// Does nothing. The contract states what always holds of the lists.
     pub fn are_generations(&self)
         ensures generations { AreGenerations self.now.lists }

@@ -7,6 +7,8 @@ use Rattle.std.proofs.lemmas.Bool.Decides.{nat_tests}
 use Rattle.std.proofs.lemmas.List.{length-replicate}
 use Rattle.machine.specs.declared.id.GroupId.{GroupId}
 use Rattle.machine.specs.declared.entry.Entry.{Entry}
+use Rattle.machine.specs.declared.event.Goal.{Goal}
+use Rattle.machine.specs.declared.event.Goal.TheVariants.{Amount}
 use Rattle.machine.specs.declared.event.Event.{Event}
 use Rattle.machine.specs.declared.event.Event.TheVariants as event
 use Rattle.machine.specs.declared.refusal.Refusal.{Refusal}
@@ -17,11 +19,12 @@ use Rattle.machine.specs.Slots.{there_and}
 use Rattle.machine.specs.Tree.{Node, node_at}
 use Rattle.machine.specs.Pages.{Page, Pages, page_at, is_anon, is_held, is_held_in, in_transfer}
 use Rattle.machine.specs.State.{Opening, State, page_numbers, first_state, is_swap_free}
-use Rattle.machine.specs.Reclaim.{target_of}
+use Rattle.machine.specs.Reclaim.{target_of, goal_of, goal_in}
 use Rattle.machine.specs.Generations.{Gens, new_gens, of_kind, row_of, gens_at}
 use Rattle.machine.specs.Aging.{is_marked, has_mark}
 use Rattle.machine.specs.Eviction.{old_pages}
-use Rattle.machine.specs.Lists.{HeldLists, Order, Orders, first_order, PicksOf, is_held_of, ListsHeld, AreGenerations, Generation, Youngest, generation_for, GoesOn, is_in_bits, MergesMarks, with_group, TakesNext, AddsLists, RemovesLists, Keeps}
+use Rattle.machine.specs.Order.{heeds_age}
+use Rattle.machine.specs.Lists.{HeldLists, Order, gives_old, Orders, first_order, PicksOf, is_held_of, ListsHeld, AreGenerations, Generation, Youngest, generation_for, GoesOn, is_in_bits, MergesMarks, with_group, TakesNext, AddsLists, RemovesLists, Keeps}
 use Rattle.machine.specs.Refusals.{refusal}
 use Rattle.machine.specs.Call.{Past, Caller, Answers, Refuses, Answered, JudgedBy, Called, knows_pass, is_trace_full}
 use Rattle.machine.specs.Step.{new_node, Removes, Step}
@@ -35,6 +38,7 @@ use Rattle.machine.proofs.HeldLemmas.{held-go_on, gens_at-more, held-group, gene
 use Rattle.legal.proofs.StepLemmas.{step-places, mkdir-pages, legal-lists}
 use Rattle.legal.proofs.RemovedCounts.{removal, SameNumbers, numbers-handed, length-handed, handed, held-removed, generations-removed}
 use Rattle.legal.proofs.OrdersLemmas.{orders_alike}
+use Rattle.legal.proofs.ServedLemmas.{served-has_old}
 use Rattle.legal.proofs.SoundLemmas.{legal-sound}
 use Rattle.eviction.proofs.SoundLemmas.{picked-length, picked-generations, picked-size, picked-held, picked-of, picked-marked, picked-unmarked}
 use Rattle.machine.specs.Events.{took_for}
@@ -79,16 +83,16 @@ module _ (old new : Past) (caller : Caller) (what : Event) (answer : Reply) (ser
 
 -- how the order goes on, by whether a page is taken, a group is made, one is removed, marks are merged, or none of these
 orders_or : {P : Type 0} (old new : State) (order order' : Order) (what : Event) (answer : Reply)
-    → ((target : ℕ) → took_for what answer ≡ Some target → changes_groups what ≡ false → TakesNext old order target new order' → P)
+    → ((goal : Goal) (target : ℕ) → took_for what answer ≡ Some target → changes_groups what ≡ false → TakesNext old order goal target new order' → P)
     → ((path : List ℕ) → what ≡ event.Mkdir path → AddsLists order order' → P)
     → ((g : GroupId) → what ≡ event.Rmdir g → RemovesLists (node_at old.tree g.0).parent g.0 order order' → P)
     → ((word bits : ℕ) → what ≡ event.MergeMarks word bits → MergesMarks old.pages word bits order.held order'.held × (order'.cursors ≡ order.cursors) → P)
     → (changes_groups what ≡ false → Keeps old order what answer new order' → P)
     → Orders old order what answer new order' → P
-orders_or old new order order' (event.Relieve cause) (reply.Out ticket) takes adds removes merges keeps h = takes (target_of cause) refl refl h
-orders_or old new order order' (event.Relieve cause) reply.Dropped takes adds removes merges keeps h = takes (target_of cause) refl refl h
-orders_or old new order order' (event.ReclaimOne g) (reply.Out ticket) takes adds removes merges keeps h = takes g.0 refl refl h
-orders_or old new order order' (event.ReclaimOne g) reply.Dropped takes adds removes merges keeps h = takes g.0 refl refl h
+orders_or old new order order' (event.Relieve cause) (reply.Out ticket) takes adds removes merges keeps h = takes (goal_of cause) (target_of cause) refl refl h
+orders_or old new order order' (event.Relieve cause) reply.Dropped takes adds removes merges keeps h = takes (goal_of cause) (target_of cause) refl refl h
+orders_or old new order order' (event.ReclaimOne g) (reply.Out ticket) takes adds removes merges keeps h = takes Amount g.0 refl refl h
+orders_or old new order order' (event.ReclaimOne g) reply.Dropped takes adds removes merges keeps h = takes Amount g.0 refl refl h
 orders_or old new order order' (event.Mkdir path) answer takes adds removes merges keeps h = adds path refl h
 orders_or old new order order' (event.Rmdir g) answer takes adds removes merges keeps h = removes g refl h
 orders_or old new order order' (event.MergeMarks word bits) answer takes adds removes merges keeps h = merges word bits refl h
@@ -156,8 +160,8 @@ module _ (opening : Opening) (history : List Entry) (old new : State) (order ord
         cursors = cursors ∙ sym tree;
       }
 
-  ordered-takes : (target : ℕ) → changes_groups what ≡ false → TakesNext old order target new order' → IsInOrder old order → IsInOrder new order'
-  ordered-takes target same h was =
+  ordered-takes : (goal : Goal) (target : ℕ) → changes_groups what ≡ false → TakesNext old order goal target new order' → IsInOrder old order → IsInOrder new order'
+  ordered-takes goal target same h was =
       let swap : Bool = is_swap_free old in
       goes-ordered Youngest h.looked same h.leaves (picked-held swap order.held h.g (Some h.p) h.looked h.picked old.pages was.sound was.listed)
       (picked-generations swap order.held h.g (Some h.p) h.looked h.picked was.sound) (picked-length swap order.held h.g (Some h.p) h.looked h.picked ∙ was.groups)
@@ -209,7 +213,7 @@ module _ (opening : Opening) (history : List Entry) (old new : State) (order ord
 
   ordered-step : Orders old order what answer new order' → IsInOrder old order → IsInOrder new order'
   ordered-step orders was =
-      orders_or old new order order' what answer (λ target took same h. ordered-takes target same h was) (λ path e h. ordered-adds path e h was) (λ g e h. ordered-removes g e h was) (λ word bits e h. ordered-merges word bits e h was) (λ same h. ordered-keeps same h was) orders
+      orders_or old new order order' what answer (λ goal target took same h. ordered-takes goal target same h was) (λ path e h. ordered-adds path e h was) (λ g e h. ordered-removes g e h was) (λ word bits e h. ordered-merges word bits e h was) (λ same h. ordered-keeps same h was) orders
 
 pub ordered-called : (opening : Opening) (old new : Past) (caller : Caller) (what : Event) (answer : Reply) → Legal opening new.history new.state → Called old caller what answer new → IsOrdered old → IsOrdered new
 ordered-called opening old new caller what answer legal called was =
@@ -264,8 +268,8 @@ merged-before pages word bits held held' h p m = by_mark (is_marked held.marks p
     by_mark false true was named e = inr named
     by_mark false false was named e = absurd (true≢false (sym e ∙ ap (λ (x : Bool). x || there_and (is_in_bits word bits) (page_at pages p)) was ∙ named))
 
-takes-marked : (old new : State) (order order' : Order) (target : ℕ) → TakesNext old order target new order' → (p : ℕ) → is_marked order'.held.marks p ≡ true → is_marked order.held.marks p ≡ true
-takes-marked old new order order' target h p m = by_mark (is_marked order.held.marks p) refl
+takes-marked : (old new : State) (order order' : Order) (goal : Goal) (target : ℕ) → TakesNext old order goal target new order' → (p : ℕ) → is_marked order'.held.marks p ≡ true → is_marked order.held.marks p ≡ true
+takes-marked old new order order' goal target h p m = by_mark (is_marked order.held.marks p) refl
   where
     looked : is_marked h.looked.marks p ≡ true
     looked = goes-marked Youngest old.pages new.pages h.looked order'.held h.leaves p m
@@ -278,7 +282,7 @@ pub only_merges_mark : OnlyMergesMark
 only_merges_mark old new caller what answer called p m =
     called_or old new caller what answer (λ same. inl (ap (λ (x : Past). is_marked x.order.held.marks p) (sym same) ∙ m))
     (λ h.
-    orders_or old.state new.state old.order new.order what answer (λ target took same k. inl (takes-marked old.state new.state old.order new.order target k p m))
+    orders_or old.state new.state old.order new.order what answer (λ goal target took same k. inl (takes-marked old.state new.state old.order new.order goal target k p m))
     (λ path e k. inl (ap (λ (x : Order). is_marked x.held.marks p) (sym k) ∙ m))
     (λ g e k. inl (ap (λ (marks : List Bool). is_marked marks p) (sym (removes-marks (node_at old.state.tree g.0).parent g.0 old.order new.order k)) ∙ m))
     (λ word bits e k.
@@ -328,15 +332,15 @@ took_served (event.ReclaimOne g) (reply.Refused why) target e = cc
 took_served what (reply.Refused why) target e = cc
 took_served what answer target e = refl
 
-takes_next : (old new : State) (order order' : Order) (what : Event) (answer : Reply) (target : ℕ) → took_for what answer ≡ Some target → Orders old order what answer new order' → TakesNext old order target new order'
-takes_next old new order order' (event.Relieve why) (reply.Out ticket) target e h = subst (λ t. TakesNext old order t new order') (some_inj e) h
-takes_next old new order order' (event.Relieve why) reply.Dropped target e h = subst (λ t. TakesNext old order t new order') (some_inj e) h
-takes_next old new order order' (event.ReclaimOne g) (reply.Out ticket) target e h = subst (λ t. TakesNext old order t new order') (some_inj e) h
-takes_next old new order order' (event.ReclaimOne g) reply.Dropped target e h = subst (λ t. TakesNext old order t new order') (some_inj e) h
+takes_next : (old new : State) (order order' : Order) (what : Event) (answer : Reply) (target : ℕ) → took_for what answer ≡ Some target → Orders old order what answer new order' → TakesNext old order (goal_in what) target new order'
+takes_next old new order order' (event.Relieve why) (reply.Out ticket) target e h = subst (λ t. TakesNext old order (goal_of why) t new order') (some_inj e) h
+takes_next old new order order' (event.Relieve why) reply.Dropped target e h = subst (λ t. TakesNext old order (goal_of why) t new order') (some_inj e) h
+takes_next old new order order' (event.ReclaimOne g) (reply.Out ticket) target e h = subst (λ t. TakesNext old order Amount t new order') (some_inj e) h
+takes_next old new order order' (event.ReclaimOne g) reply.Dropped target e h = subst (λ t. TakesNext old order Amount t new order') (some_inj e) h
 takes_next old new order order' what answer target e h = cc
 
-leaves_in_order : (old new : Past) (target : ℕ) → IsOrdered old → TakesUnprotected old.state target new.state → TakesNext old.state old.order target new.state new.order → LeavesInOrder old target new
-leaves_in_order old new target was taken next = record {
+leaves_in_order : (old new : Past) (goal : Goal) (target : ℕ) → IsOrdered old → TakesUnprotected old.state target new.state → TakesNext old.state old.order goal target new.state new.order → LeavesInOrder old goal target new
+leaves_in_order old new goal target was taken next = record {
   taken = taken;
   turn = next.next ∙ ap (λ (g : ℕ). Some g) group;
   looked = next.looked;
@@ -363,29 +367,50 @@ leaves_in_order old new target was taken next = record {
         let both = and_parts (is_held taken.page) ((taken.page.group == next.g) && of_kinds) here in
         sym (eqb-true taken.page.group next.g (and_parts (taken.page.group == next.g) of_kinds both.1).0)
 
--- a marked page that is taken was of a group with no old page unmarked
-marked_stays : (old new : Past) (target : ℕ) → IsOrdered old → LeavesInOrder old target new → (p : ℕ) (page : Page) → page_at old.state.pages p ≡ Some page → is_held page ≡ true → there_and is_held (page_at new.state.pages p) ≡ false
-    → is_marked old.order.held.marks p ≡ true → AllByRecursion (λ l. has_mark old.order.held.marks l ≡ true) (old_pages (is_swap_free old.state) (gens_at old.order.held.groups page.group))
-marked_stays old new target was h p page there held gone marked =
+-- a page that is held no more is the one that was taken
+the_taken : (old new : Past) (goal : Goal) (target : ℕ) (h : LeavesInOrder old goal target new) (p : ℕ) (page : Page) → page_at old.state.pages p ≡ Some page → is_held page ≡ true
+    → there_and is_held (page_at new.state.pages p) ≡ false → (p ≡ h.taken.p) × (page ≡ h.taken.page)
+the_taken old new goal target h p page there held gone =
     let same : p ≡ h.taken.p =
     elim (eq_cases p h.taken.p) [
       | inl e ↦ e
       | inr differs ↦ unlike (is_held_in old.state.pages p) (ap (there_and is_held) there ∙ held) (ap (there_and is_held) (sym (h.taken.others p differs)) ∙ gone)
     ] in
-    let its : page ≡ h.taken.page = some_inj (sym there ∙ ap (page_at old.state.pages) same ∙ h.taken.there) in
-    subst (λ (x : Page). AllByRecursion (λ l. has_mark old.order.held.marks l ≡ true) (old_pages (is_swap_free old.state) (gens_at old.order.held.groups x.group))) (sym its)
-    (picked-marked (is_swap_free old.state) old.order.held h.taken.page.group h.taken.p h.looked h.picked was.sound (ap (is_marked old.order.held.marks) (sym same) ∙ marked))
+    (same, some_inj (sym there ∙ ap (page_at old.state.pages) same ∙ h.taken.there))
+
+-- a marked page that is taken was of a group with no old page unmarked
+marked_stays : (old new : Past) (goal : Goal) (target : ℕ) → IsOrdered old → LeavesInOrder old goal target new → (p : ℕ) (page : Page) → page_at old.state.pages p ≡ Some page → is_held page ≡ true
+    → there_and is_held (page_at new.state.pages p) ≡ false → is_marked old.order.held.marks p ≡ true
+    → AllByRecursion (λ l. has_mark old.order.held.marks l ≡ true) (old_pages (is_swap_free old.state) (gens_at old.order.held.groups page.group))
+marked_stays old new goal target was h p page there held gone marked =
+    let its = the_taken old new goal target h p page there held gone in
+    subst (λ (x : Page). AllByRecursion (λ l. has_mark old.order.held.marks l ≡ true) (old_pages (is_swap_free old.state) (gens_at old.order.held.groups x.group))) (sym its.1)
+    (picked-marked (is_swap_free old.state) old.order.held h.taken.page.group h.taken.p h.looked h.picked was.sound (ap (is_marked old.order.held.marks) (sym its.0) ∙ marked))
+
+-- where age is heeded, and some group has an old page of a file to give, a page that is taken was of such a group
+idle_stays : (opening : Opening) (old new : Past) (goal : Goal) (target : ℕ) → Legal opening old.history old.state → LeavesInOrder old goal target new → heeds_age opening.placement goal target ≡ true
+    → (h : ℕ) → gives_old old.state old.order.held target h ≡ true → (p : ℕ) (page : Page) → page_at old.state.pages p ≡ Some page → is_held page ≡ true
+    → there_and is_held (page_at new.state.pages p) ≡ false → gives_old old.state old.order.held target page.group ≡ true
+idle_stays opening old new goal target legal leaves heeds h old_file p page there held gone =
+    let its = the_taken old new goal target leaves p page there held gone in
+    subst (λ (x : Page). gives_old old.state old.order.held target x.group ≡ true) (sym its.1)
+    (served-has_old opening old.history old.state legal old.order goal target h leaves.taken.page.group heeds old_file leaves.turn)
 
 module _ (old new : Past) (caller : Caller) (what : Event) (answer : Reply) (target : ℕ) (took : took_for what answer ≡ Some target) (called : Called old caller what answer new) (was : IsOrdered old) where
-  pub called_leaves : LeavesInOrder old target new
+  pub called_leaves : LeavesInOrder old (goal_in what) target new
   called_leaves =
       let served = called_answers old new caller what answer (took_served what answer target took) called in
-      leaves_in_order old new target was (reclaims_spare_the_protected old.state new.state what answer target took served.steps)
+      leaves_in_order old new (goal_in what) target was (reclaims_spare_the_protected old.state new.state what answer target took served.steps)
       (takes_next old.state new.state old.order new.order what answer target took served.order)
 
   pub called_stays : (p : ℕ) (page : Page) → page_at old.state.pages p ≡ Some page → is_held page ≡ true → there_and is_held (page_at new.state.pages p) ≡ false
       → is_marked old.order.held.marks p ≡ true → AllByRecursion (λ l. has_mark old.order.held.marks l ≡ true) (old_pages (is_swap_free old.state) (gens_at old.order.held.groups page.group))
-  called_stays = marked_stays old new target was called_leaves
+  called_stays = marked_stays old new (goal_in what) target was called_leaves
+
+  pub called_idle : (opening : Opening) → Legal opening old.history old.state → heeds_age opening.placement (goal_in what) target ≡ true → (h : ℕ) → gives_old old.state old.order.held target h ≡ true
+      → (p : ℕ) (page : Page) → page_at old.state.pages p ≡ Some page → is_held page ≡ true → there_and is_held (page_at new.state.pages p) ≡ false
+      → gives_old old.state old.order.held target page.group ≡ true
+  called_idle opening legal = idle_stays opening old new (goal_in what) target legal called_leaves
 
 -- ---- two calls
 

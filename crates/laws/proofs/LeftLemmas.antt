@@ -11,7 +11,7 @@ use Rattle.legal.proofs.SoundLemmas.{legal-files}
 use Rattle.driver.specs.declared.seat.Activity.{Activity}
 use Rattle.driver.specs.declared.seat.Seat.{Seat}
 use Rattle.driver.specs.Hands.{carries, tickets_in_hand}
-use Rattle.driver.proofs.HandLemmas.{transfers_are_in_hand}
+use Rattle.laws.proofs.HandLemmas.{transfers_are_in_hand}
 use Rattle.laws.specs.Laws.{AllRest, is_away, NothingIsLeft}
 use Rattle.laws.proofs.Legals.{runs_are_legal}
 

@@ -4,6 +4,7 @@ pub mod ReclaimLemmas
 pub mod RiseLemmas
 pub mod CallLemmas
 pub mod OrderLemmas
+pub mod HandLemmas
 pub mod LeftLemmas
 pub mod ShareLemmas
 pub mod TurnLemmas

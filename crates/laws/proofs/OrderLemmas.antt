@@ -20,9 +20,9 @@ use Rattle.turns.specs.declared.turn.Want.TheVariants as want
 use Rattle.driver.specs.Schedule.{World, first_world, activity_of, with_activity, MarksAfter, WantTurn, wants_at, StageTurn, Runs}
 use Rattle.driver.proofs.Keeps.{is_idle, FineOutcome, IsAt, runs_keep}
 use Rattle.driver.proofs.Tickets.{Tickets, tickets_rest, tickets_turn, tickets_first}
-use Rattle.laws.specs.Laws.{HeldPagesAreListed, GenerationsHold, GroupsHaveCursors, PagesLeaveInOrder, MarkedPagesStay}
+use Rattle.laws.specs.Laws.{HeldPagesAreListed, GenerationsHold, GroupsHaveCursors, PagesLeaveInOrder, IdleIsLeftAlone, MarkedPagesStay}
 use Rattle.laws.proofs.Legals.{IsLegal, legal-called}
-use Rattle.laws.proofs.CallLemmas.{IsOrdered, ordered-first, ordered-called, called_leaves, called_stays}
+use Rattle.laws.proofs.CallLemmas.{IsOrdered, ordered-first, ordered-called, called_leaves, called_stays, called_idle}
 
 -- ---- runs
 
@@ -77,6 +77,10 @@ groups_have_cursors config before lines answers end runs = (runs_ordered config 
 pub pages_leave_in_order : PagesLeaveInOrder
 pages_leave_in_order config before lines answers end runs after caller what answer target took called =
     called_leaves end.past after caller what answer target took called (runs_ordered config before lines answers end runs).order
+
+pub idle_is_left_alone : IdleIsLeftAlone
+idle_is_left_alone config before lines answers end runs after caller what answer target took called =
+    let h = runs_ordered config before lines answers end runs in called_idle end.past after caller what answer target took called h.order (opening_of config) h.tickets.legal
 
 pub marked_pages_stay : MarkedPagesStay
 marked_pages_stay config before lines answers end runs after caller what answer target took called =

@@ -9,6 +9,7 @@ use Rattle.machine.specs.declared.id.FrameId.{FrameId}
 use Rattle.machine.specs.declared.id.GroupId.{GroupId}
 use Rattle.machine.specs.declared.id.TaskId.{TaskId}
 use Rattle.machine.specs.declared.event.Cause.{Cause}
+use Rattle.machine.specs.declared.event.Goal.{Goal}
 use Rattle.machine.specs.declared.event.Op.{Op}
 use Rattle.machine.specs.declared.event.Place.{Place}
 use Rattle.machine.specs.declared.event.Setting.{Setting}
@@ -38,11 +39,12 @@ use Rattle.machine.specs.Tree.{Node, node_at, is_child, is_live, children, under
 use Rattle.machine.specs.Pages.{OfFile, Residence, Away, Page, page_at, is_anon, is_held, frame_at, block_at, ticket_at, is_in_transfer, is_charged, is_number, in_transfer, used_frames, used_swap, IsFiled}
 use Rattle.machine.specs.Tasks.{task_at, task_of, lives, group_of_task, mapped_at, size_of}
 use Rattle.machine.specs.State.{Opening, State, page_numbers, usage, effective_in, effective_min, effective_low, is_swap_free, opening_of, blocks_of}
-use Rattle.machine.specs.Reclaim.{is_takeable, is_idle, target_of}
+use Rattle.machine.specs.Reclaim.{is_takeable, is_idle, target_of, goal_in}
 use Rattle.machine.specs.Generations.{row_of, listed, gens_at, AreDistinct}
 use Rattle.machine.specs.Aging.{is_marked, has_mark}
 use Rattle.machine.specs.Eviction.{old_pages}
-use Rattle.machine.specs.Lists.{HeldLists, Youngest, served, PicksOf, ListsHeld, AreGenerations, generation_for, GoesOn, shown_at, is_in_bits, MergesMarks, with_group, RemovesLists}
+use Rattle.machine.specs.Order.{heeds_age}
+use Rattle.machine.specs.Lists.{HeldLists, Youngest, gives_old, served, PicksOf, ListsHeld, AreGenerations, generation_for, GoesOn, shown_at, is_in_bits, MergesMarks, with_group, RemovesLists}
 use Rattle.machine.specs.Victim.{flag_at, is_live_under, is_candidate, is_flagged}
 use Rattle.machine.specs.Refusals.{refusal}
 use Rattle.machine.specs.Step.{Step}
@@ -426,11 +428,11 @@ MergesAreServed =
     → (after : Past) (caller : Caller) (word bits : ℕ) (answer : Reply) → Called end.past caller (event.MergeMarks word bits) answer after
     → (answer ≡ reply.Ok) × MergesMarks end.past.state.pages word bits end.past.order.held after.order.held
 
--- a page was taken for the target, and it was its group's turn to give one, and the page the one of the group's that is evicted next. The lists go on, without it, from what the
--- search for it left; and the target's cursor then names the group
-pub record LeavesInOrder (before : Past) (target : ℕ) (after : Past) : Type 0 where
+-- a page was taken for the target, and it was its group's turn to give one, which by Linux's placement is first that of the groups with an old page of a file, for one page and for the
+-- root; and the page was the one of the group's that is evicted next. The lists go on, without it, from what the search for it left; and the target's cursor then names the group
+pub record LeavesInOrder (before : Past) (goal : Goal) (target : ℕ) (after : Past) : Type 0 where
   pub taken : TakesUnprotected before.state target after.state
-  pub turn : served before.state before.order target ≡ Some taken.page.group
+  pub turn : served before.state before.order goal target ≡ Some taken.page.group
   pub looked : HeldLists
   pub picked : PicksOf (is_swap_free before.state) before.order.held taken.page.group (Some taken.p) looked
   pub leaves : GoesOn Youngest before.state.pages looked after.state.pages after.order.held
@@ -442,7 +444,17 @@ abbrev pub PagesLeaveInOrder : Type 0
 PagesLeaveInOrder =
     (config : Config) (before : Disk) (steps : List Line) (answers : List Told_by) (end : World) → Runs (first_world config before) steps answers end
     → (after : Past) (caller : Caller) (what : Event) (answer : Reply) (target : ℕ) → took_for what answer ≡ Some target → Called end.past caller what answer after
-    → LeavesInOrder end.past target after
+    → LeavesInOrder end.past (goal_in what) target after
+
+-- by Linux's placement, where a page is taken for a charge, for a frame, or for the root, and some group that may give has an old page of a file that isn't marked, then the page's
+-- group has one too. (Excludes idle memory that is taken from a group without such a page while another has one.)
+abbrev pub IdleIsLeftAlone : Type 0
+IdleIsLeftAlone =
+    (config : Config) (before : Disk) (steps : List Line) (answers : List Told_by) (end : World) → Runs (first_world config before) steps answers end
+    → (after : Past) (caller : Caller) (what : Event) (answer : Reply) (target : ℕ) → took_for what answer ≡ Some target → Called end.past caller what answer after
+    → heeds_age config.placement (goal_in what) target ≡ true → (h : ℕ) → gives_old end.past.state end.past.order.held target h ≡ true
+    → (p : ℕ) (page : Page) → page_at end.past.state.pages p ≡ Some page → is_held page ≡ true → there_and is_held (page_at after.state.pages p) ≡ false
+    → gives_old end.past.state end.past.order.held target page.group ≡ true
 
 -- and a page that is marked is taken only where each old page of its group is: those that may be taken, and that are of none of the two youngest generations. (Excludes a page that
 -- was used since it was last looked at, taken while an old one of its group was not.)

@@ -2,7 +2,7 @@
 //! a function that does nothing.
 #![tactic(auto)]
 
-ghost use Rattle.laws.specs.Laws.{RunsAreLegal, RunsAreHonest, NoStrangers, ErrorsAreFailures, EachFailureIsAnswered, TransfersAreInHand, NothingIsLeft, CurrentCountsPages, EventsAreThoseCounted, CountsAreOfTheHistory, ChargesStayWithinMax, OnlyAccessesCharge, KillsComeLast, VictimsHaveTheMostPages, GroupKillsAreWhole, SingleKillsAreUnflagged, KillsAreCounted, ReadsGiveLastWrites, HonestDevicesPassTheAudit, AuditedReadsGaveLastWrites, PagesShareNoFrame, PagesShareNoBlock, BlocksAreThere, PagesShareNoTicket, FilePagesStayAtHome, FilePagesAreOne, OnlyCleanPagesAreDropped, StatAddsUpToCurrent, MappingsShowPages, MemoryWithoutAMappingIsGone, SharedBytesAgree, ForksShare, MovesTakeNoCharge, RemovalsKeepAncestorsCounts, RemovedGroupsHaveNoPages, RootIsNeverFlagged, OnlySetsChangeSettings, TraceHasRoom, TransfersAreBegunLessEnded, TransfersStayCharged, RepliesAreSettled, OrdersAreSettled, WriteOutsStayCharged, ReclaimsSpareTheProtected, SharesStayWithin, LowsComeLast, LowsAreCounted, LowsKillNobody, ReclaimsGiveUpLast, ReclaimsKillNobody, HeldPagesAreListed, GenerationsHold, GroupsHaveCursors, HeldPagesGoOn, OnlyTakesAge, HitsMark, OnlyHitsMark, OnlyMergesMark, MergesChangeMarksAlone, MergesAreServed, PagesLeaveInOrder, MarkedPagesStay, GroupsAreThere};
+ghost use Rattle.laws.specs.Laws.{RunsAreLegal, RunsAreHonest, NoStrangers, ErrorsAreFailures, EachFailureIsAnswered, TransfersAreInHand, NothingIsLeft, CurrentCountsPages, EventsAreThoseCounted, CountsAreOfTheHistory, ChargesStayWithinMax, OnlyAccessesCharge, KillsComeLast, VictimsHaveTheMostPages, GroupKillsAreWhole, SingleKillsAreUnflagged, KillsAreCounted, ReadsGiveLastWrites, HonestDevicesPassTheAudit, AuditedReadsGaveLastWrites, PagesShareNoFrame, PagesShareNoBlock, BlocksAreThere, PagesShareNoTicket, FilePagesStayAtHome, FilePagesAreOne, OnlyCleanPagesAreDropped, StatAddsUpToCurrent, MappingsShowPages, MemoryWithoutAMappingIsGone, SharedBytesAgree, ForksShare, MovesTakeNoCharge, RemovalsKeepAncestorsCounts, RemovedGroupsHaveNoPages, RootIsNeverFlagged, OnlySetsChangeSettings, TraceHasRoom, TransfersAreBegunLessEnded, TransfersStayCharged, RepliesAreSettled, OrdersAreSettled, WriteOutsStayCharged, ReclaimsSpareTheProtected, SharesStayWithin, LowsComeLast, LowsAreCounted, LowsKillNobody, ReclaimsGiveUpLast, ReclaimsKillNobody, HeldPagesAreListed, GenerationsHold, GroupsHaveCursors, HeldPagesGoOn, OnlyTakesAge, HitsMark, OnlyHitsMark, OnlyMergesMark, MergesChangeMarksAlone, MergesAreServed, PagesLeaveInOrder, IdleIsLeftAlone, MarkedPagesStay, GroupsAreThere};
 
 /// The history of every run is legal: it leads from the opening to the run's state, and each entry is one step of the
 /// plain machine. Therefore what holds of each step, and of each legal history, holds of every run.
@@ -228,11 +228,19 @@ pub fn merges_are_served()
     ensures { MergesAreServed }
 {}
 
-/// After any run, a page that a call reclaims is of the group whose turn it is for that target. It is the page of that
-/// group that is evicted next. The lists are those that the search left, without the page, and the target's cursor then
-/// names the group.
+/// After any run, a page that a call reclaims is of the group whose turn it is for that target. By Linux's placement,
+/// groups with an old page of a file that isn't marked have their turn before all others, for a charge, for a frame and
+/// for the root. It is the page of that group that is evicted next. The lists are those that the search left, without
+/// the page, and the target's cursor then names the group.
 pub fn pages_leave_in_order()
     ensures { PagesLeaveInOrder }
+{}
+
+/// After any run, by Linux's placement: where a page is taken for a charge, for a frame, or for the root, and some
+/// group that may give has an old page of a file that isn't marked, then the page's group has one too. This excludes
+/// idle memory that is taken from a group without such a page while another group has one.
+pub fn idle_is_left_alone()
+    ensures { IdleIsLeftAlone }
 {}
 
 /// After any run, a marked page is reclaimed only if each page of its group that can be reclaimed is marked, or in one

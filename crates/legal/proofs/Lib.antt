@@ -17,3 +17,4 @@ pub mod CountedLemmas
 pub mod NamedLemmas
 pub mod TransferLemmas
 pub mod FirstBytesLemmas
+pub mod ServedLemmas

@@ -2,13 +2,15 @@
 use Rattle.std.proofs.Common.{◌≡◌, ℕ, suc, Bool, true, false, List, [], ◌∷◌, length, Option, Some, None, eqb-true, refl, sym, ap, ◌∙◌, subst, arith}
 use Rattle.std.specs.Prelude.{map, slice_set}
 use Rattle.std.proofs.lemmas.Bool.{eq-eqb}
+use Rattle.machine.specs.declared.event.Goal.{Goal}
+use Rattle.machine.specs.declared.event.Goal.TheVariants.{Amount}
 use Rattle.machine.specs.declared.event.Event.{Event}
 use Rattle.machine.specs.declared.event.Event.TheVariants as event
 use Rattle.machine.specs.declared.reply.Reply.{Reply}
 use Rattle.machine.specs.declared.reply.Reply.TheVariants as reply
 use Rattle.machine.specs.Pages.{Pages, is_held_in, is_number}
 use Rattle.machine.specs.State.{State, is_swap_free}
-use Rattle.machine.specs.Reclaim.{target_of}
+use Rattle.machine.specs.Reclaim.{target_of, goal_of}
 use Rattle.machine.specs.Generations.{Gens}
 use Rattle.machine.specs.Aging.{Seen, is_marked}
 use Rattle.machine.specs.Eviction.{Picks}
@@ -55,9 +57,9 @@ goes_on_alike generation before held after held' held'' h h' =
 -- ---- the order
 
 -- the page that is taken is the one that the search picks from the group whose turn it is
-pub taken_is_picked : (old : State) (order : Order) (target g p : ℕ) (seen : Seen) → served old order target ≡ Some g → Picks (is_swap_free old) (seen_of order.held g) (Some p) seen
-    → (new : State) (order' : Order) → TakesNext old order target new order' → is_held_in new.pages p ≡ false
-taken_is_picked old order target g p seen turn picks new order' h =
+pub taken_is_picked : (old : State) (order : Order) (goal : Goal) (target g p : ℕ) (seen : Seen) → served old order goal target ≡ Some g → Picks (is_swap_free old) (seen_of order.held g) (Some p) seen
+    → (new : State) (order' : Order) → TakesNext old order goal target new order' → is_held_in new.pages p ≡ false
+taken_is_picked old order goal target g p seen turn picks new order' h =
     let group : h.g ≡ g = some_inj (sym h.next ∙ turn) in
     let picked : Picks (is_swap_free old) (seen_of order.held g) (Some h.p) h.picked.seen =
     subst (λ (g : ℕ). Picks (is_swap_free old) (seen_of order.held g) (Some h.p) h.picked.seen) group h.picked.picks in
@@ -66,8 +68,8 @@ taken_is_picked old order target g p seen turn picks new order' h =
 
 module _ (old new : State) (order order' order'' : Order) where
   -- a page that is taken in turn
-  pub takes_next_alike : (target : ℕ) → TakesNext old order target new order' → TakesNext old order target new order'' → order' ≡ order''
-  takes_next_alike target h h' =
+  pub takes_next_alike : (goal : Goal) (target : ℕ) → TakesNext old order goal target new order' → TakesNext old order goal target new order'' → order' ≡ order''
+  takes_next_alike goal target h h' =
       let group : h.g ≡ h'.g = some_inj (sym h.next ∙ h'.next) in
       let picks' : Picks (is_swap_free old) (seen_of order.held h.g) (Some h'.p) h'.picked.seen =
       subst (λ (g : ℕ). Picks (is_swap_free old) (seen_of order.held g) (Some h'.p) h'.picked.seen) (sym group) h'.picked.picks in
@@ -98,10 +100,10 @@ module _ (old new : State) (order order' order'' : Order) where
 
   -- by the event and its reply
   pub orders_alike : (what : Event) (answer : Reply) → Orders old order what answer new order' → Orders old order what answer new order'' → order' ≡ order''
-  orders_alike (event.Relieve cause) (reply.Out ticket) h h' = takes_next_alike (target_of cause) h h'
-  orders_alike (event.Relieve cause) reply.Dropped h h' = takes_next_alike (target_of cause) h h'
-  orders_alike (event.ReclaimOne g) (reply.Out ticket) h h' = takes_next_alike g.0 h h'
-  orders_alike (event.ReclaimOne g) reply.Dropped h h' = takes_next_alike g.0 h h'
+  orders_alike (event.Relieve cause) (reply.Out ticket) h h' = takes_next_alike (goal_of cause) (target_of cause) h h'
+  orders_alike (event.Relieve cause) reply.Dropped h h' = takes_next_alike (goal_of cause) (target_of cause) h h'
+  orders_alike (event.ReclaimOne g) (reply.Out ticket) h h' = takes_next_alike Amount g.0 h h'
+  orders_alike (event.ReclaimOne g) reply.Dropped h h' = takes_next_alike Amount g.0 h h'
   orders_alike (event.Mkdir path) answer h h' = h ∙ sym h'
   orders_alike (event.Rmdir g) answer h h' = removes_alike (node_at old.tree g.0).parent g.0 h h'
   orders_alike (event.MergeMarks word bits) answer h h' = merges_alike word bits h h'

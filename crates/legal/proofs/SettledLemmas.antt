@@ -11,6 +11,8 @@ use Rattle.machine.specs.declared.record.Life.{Life}
 use Rattle.machine.specs.declared.record.Life.TheVariants.{Live, Exited, Killed}
 use Rattle.machine.specs.declared.record.Task.{Task}
 use Rattle.machine.specs.declared.event.Cause.{Cause}
+use Rattle.machine.specs.declared.event.Goal.{Goal}
+use Rattle.machine.specs.declared.event.Goal.TheVariants.{Amount}
 use Rattle.machine.specs.declared.event.Op.{Op}
 use Rattle.machine.specs.declared.event.Op.TheVariants.{Read, Write}
 use Rattle.machine.specs.declared.event.Place.{Place}
@@ -27,7 +29,7 @@ use Rattle.machine.specs.Pages.{Content, Memory, OfFile, Residence, Held, Coming
 use Rattle.machine.specs.Tasks.{Tasks, PageTables, task_at, size_of}
 use Rattle.machine.specs.State.{State, is_swap_free}
 use Rattle.machine.specs.Access.{Meeting, Unmapped, Hits, Transferring, NeedsPage, NeedsCopy, NeedsSwapIn, NeedsRead, Dangling, meets, meets_mapped}
-use Rattle.machine.specs.Reclaim.{has_takeable, has_transfer, stands, target_of}
+use Rattle.machine.specs.Reclaim.{has_takeable, has_transfer, stands, target_of, goal_of}
 use Rattle.machine.specs.Victim.{is_candidate, is_worse, IsWorst, kill_group_of, killed_with}
 use Rattle.machine.specs.Eviction.{Picks}
 use Rattle.machine.specs.Lists.{HeldLists, Order, served, seen_of, PicksOf, TakesNext, Orders}
@@ -92,11 +94,11 @@ record Left (old : State) (p : ℕ) (page : Page) (answer : Reply) (new : State)
   others : (q : ℕ) → (q ≡ p → ⊥) → page_at new.pages q ≡ page_at old.pages q
 
 -- the page that the order says
-record Taken (old : State) (order : Order) (target : ℕ) (answer : Reply) : Type 0 where
+record Taken (old : State) (order : Order) (goal : Goal) (target : ℕ) (answer : Reply) : Type 0 where
   g : ℕ
   p : ℕ
   page : Page
-  next : served old order target ≡ Some g
+  next : served old order goal target ≡ Some g
   looked : HeldLists
   picked : PicksOf (is_swap_free old) order.held g (Some p) looked
   there : page_at old.pages p ≡ Some page
@@ -128,13 +130,13 @@ module _ (old new : State) (answer : Reply) where
   left_from p page (Away block) counted h = absurd h
 
   -- the page that is held no more is the one that the order says
-  taken : (order order' : Order) (target : ℕ) → ((b : Bool) → LeftWith b answer → TakesNext old order target new order') → Takes old target answer new → Taken old order target answer
-  taken order order' target by_order h = by_turn (by_order (is_clean_file h.page) gone.answers)
+  taken : (order order' : Order) (goal : Goal) (target : ℕ) → ((b : Bool) → LeftWith b answer → TakesNext old order goal target new order') → Takes old target answer new → Taken old order goal target answer
+  taken order order' goal target by_order h = by_turn (by_order (is_clean_file h.page) gone.answers)
     where
       gone : Left old h.p h.page answer new
       gone = left_from h.p h.page h.page.residence _ h.leaves
 
-      by_turn : TakesNext old order target new order' → Taken old order target answer
+      by_turn : TakesNext old order goal target new order' → Taken old order goal target answer
       by_turn turn =
           elim (eq_cases turn.p h.p) [
             | inl same ↦ record {
@@ -151,8 +153,8 @@ module _ (old new : State) (answer : Reply) where
           ]
 
 -- two pages that one order says are one, and so answer alike
-takes_alike : (what : Event) (old : State) (order : Order) (target : ℕ) (answer answer' : Reply) → Taken old order target answer → Taken old order target answer' → AreAlike what answer answer'
-takes_alike what old order target answer answer' h h' =
+takes_alike : (what : Event) (old : State) (order : Order) (goal : Goal) (target : ℕ) (answer answer' : Reply) → Taken old order goal target answer → Taken old order goal target answer' → AreAlike what answer answer'
+takes_alike what old order goal target answer answer' h h' =
     by_clean (is_clean_file h.page) h.answers (subst (λ b. LeftWith b answer') (ap is_clean_file (sym one_page)) h'.answers)
   where
     one_group : h.g ≡ h'.g
@@ -182,18 +184,18 @@ writes_meet s t (Virtual v o) b is =
     let makes : meets s t (Virtual v o) (Write b) ≡ NeedsPage v = ap (λ m. meets_mapped s v m (Write b)) found in
     cc
 
--- the page that left was taken in turn: what the order says of an event with this target
-abbrev InTurn : State → Order → Event → ℕ → Type 0
-InTurn old order what target =
-    (new : State) (order' : Order) (answer : Reply) → Orders old order what answer new order' → (b : Bool) → LeftWith b answer → TakesNext old order target new order'
+-- the page that left was taken in turn: what the order says of an event with this goal and target
+abbrev InTurn : State → Order → Event → Goal → ℕ → Type 0
+InTurn old order what goal target =
+    (new : State) (order' : Order) (answer : Reply) → Orders old order what answer new order' → (b : Bool) → LeftWith b answer → TakesNext old order goal target new order'
 
 -- so it is for a relief
-relief_in_turn : (old : State) (order : Order) (why : Cause) → InTurn old order (event.Relieve why) (target_of why)
+relief_in_turn : (old : State) (order : Order) (why : Cause) → InTurn old order (event.Relieve why) (goal_of why) (target_of why)
 relief_in_turn old order why new order' answer on true is = subst (λ a. Orders old order (event.Relieve why) a new order') is on
 relief_in_turn old order why new order' answer on false is = subst (λ a. Orders old order (event.Relieve why) a new order') is.1 on
 
 -- and for a reclaim that is asked for
-reclaim_in_turn : (old : State) (order : Order) (g : GroupId) → InTurn old order (event.ReclaimOne g) g.0
+reclaim_in_turn : (old : State) (order : Order) (g : GroupId) → InTurn old order (event.ReclaimOne g) Amount g.0
 reclaim_in_turn old order g new order' answer on true is = subst (λ a. Orders old order (event.ReclaimOne g) a new order') is on
 reclaim_in_turn old order g new order' answer on false is = subst (λ a. Orders old order (event.ReclaimOne g) a new order') is.1 on
 
@@ -235,13 +237,13 @@ module _ (old new new' : State) (order order' order'' : Order) where
     of_task (Some task) Live_step Live_step' living h h' = of_life task.life _ _ (living task) h h'
 
     -- a page is taken by both, or by none
-    reclaims : (target : ℕ) (Idle Idle' : Type 0) → InTurn old order what target → Orders old order what answer new order' → Orders old order what answer' new' order''
+    reclaims : (goal : Goal) (target : ℕ) (Idle Idle' : Type 0) → InTurn old order what goal target → Orders old order what answer new order' → Orders old order what answer' new' order''
         → (Idle → Idle' → AreAlike what answer answer') → ReclaimStep old target Idle answer new → ReclaimStep old target Idle' answer' new' → AreAlike what answer answer'
-    reclaims target Idle Idle' in_turn on on' idle h h' =
+    reclaims goal target Idle Idle' in_turn on on' idle h h' =
         both_ways (has_takeable old target)
         (λ k k'.
-        takes_alike what old order target answer answer' (taken old new answer order order' target (in_turn new order' answer on) k)
-        (taken old new' answer' order order'' target (in_turn new' order'' answer' on') k'))
+        takes_alike what old order goal target answer answer' (taken old new answer order order' goal target (in_turn new order' answer on) k)
+        (taken old new' answer' order order'' goal target (in_turn new' order'' answer' on') k'))
         (both_ways (has_transfer old target) (λ w w'. both what answer answer' _ w.0 w'.0) idle) h h'
 
   -- a hit is in the page's frame
@@ -313,10 +315,10 @@ module _ (old new new' : State) (order order' order'' : Order) where
   steps_alike (event.LeaveFailed ticket) answer answer' on on' h h' = ends (event.LeaveFailed ticket) answer answer' _ _ h h'
   steps_alike (event.Relieve why) answer answer' on on' h h' =
       let what = event.Relieve why in
-      both_ways (stands old why) (reclaims what answer answer' (target_of why) _ _ (relief_in_turn old order why) on on' (kills what (target_of why) answer answer'))
+      both_ways (stands old why) (reclaims what answer answer' (goal_of why) (target_of why) _ _ (relief_in_turn old order why) on on' (kills what (target_of why) answer answer'))
       (λ k k'. both what answer answer' _ k.0 k'.0) h h'
   steps_alike (event.ReclaimOne g) answer answer' on on' h h' =
-      let what = event.ReclaimOne g in reclaims what answer answer' g.0 _ _ (reclaim_in_turn old order g) on on' (λ k k'. both what answer answer' _ k.0 k'.0) h h'
+      let what = event.ReclaimOne g in reclaims what answer answer' Amount g.0 _ _ (reclaim_in_turn old order g) on on' (λ k k'. both what answer answer' _ k.0 k'.0) h h'
   steps_alike (event.Exit t) answer answer' on on' h h' =
       let what = event.Exit t in of_task what answer answer' (task_at old.tasks t.0) _ _ (λ task k k'. both what answer answer' _ k.0 k'.0) h h'
   steps_alike (event.Fork t child) answer answer' on on' h h' =

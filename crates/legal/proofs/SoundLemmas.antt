@@ -298,7 +298,7 @@ found_live : (tree : List Node) (path : List ℕ) (g : ℕ) → find_group tree 
 found_live tree path g e = (and_parts (is_live tree g) (bytes_eq (node_at tree g).path path) (position-Some (is_at_path path) tree g no_node e).1).0
 
 -- a group that is there stands in the list
-live-below : (tree : List Node) (g : ℕ) → is_live tree g ≡ true → g < length tree
+pub live-below : (tree : List Node) (g : ℕ) → is_live tree g ≡ true → g < length tree
 live-below tree g live =
     elim (cases_lt g (length tree)) [
       | inl below ↦ below

@@ -6,6 +6,7 @@ use Rattle.std.proofs.lemmas.Bool.{cases_eq, le-leb, lt-leb, lt-ltb, le-ltb, ne_
 use Rattle.rings.specs.Rings.{list_at, without}
 use Rattle.machine.specs.declared.record.Kind.{Kind}
 use Rattle.machine.specs.Generations.{Listed, at_seq, taken_in, first_at}
+use Rattle.machine.specs.Eviction.{is_old, old_of}
 use Rattle.lru_gen.specs.Lists.{slot}
 use Rattle.lru_gen.specs.Rows.{in_seq, rows_from}
 
@@ -140,6 +141,31 @@ module _ (g : ℕ) (kind : Kind) where
             ∙ sym (append_assoc first (filter below rest) (map (at_seq top) more ++ filter above rest))
             ∙ sym split
       ]
+
+  -- ---- the old pages
+
+  -- rows of numbers below the two highest
+  all_old : (lists : List (List ℕ)) (top seq n : ℕ) → seq + n < top → old_of top (rows_from lists g kind seq n) ≡ rows_from lists g kind seq n
+  unfolding rows_from
+  all_old lists top seq zero below = refl
+  all_old lists top seq (suc n) below =
+      rw (filter-append (is_old top) (map (in_seq seq) (list_at lists (slot g kind seq))) (rows_from lists g kind (seq + 1) n), filter_all (is_old top) seq (λ p. lt-ltb (seq + 1) top (omega arith)) (list_at lists (slot g kind seq)), all_old lists top (seq + 1) n (omega arith))
+
+  -- rows of the two highest numbers, and of higher ones
+  none_old : (lists : List (List ℕ)) (top seq n : ℕ) → top ≤ seq + 1 → old_of top (rows_from lists g kind seq n) ≡ []
+  unfolding rows_from
+  none_old lists top seq zero above = refl
+  none_old lists top seq (suc n) above =
+      rw (filter-append (is_old top) (map (in_seq seq) (list_at lists (slot g kind seq))) (rows_from lists g kind (seq + 1) n), filter_none (is_old top) seq (λ p. le-ltb (seq + 1) top above) (list_at lists (slot g kind seq))) (none_old lists top (seq + 1) n (omega arith))
+
+  -- the old pages of a row are those of its numbers below the two highest
+  pub rows_old : (lists : List (List ℕ)) (top seq m n : ℕ) → seq + m + 1 ≡ top → old_of top (rows_from lists g kind seq (m + n)) ≡ rows_from lists g kind seq m
+  rows_old lists top seq m n two =
+      ap (old_of top) (rows_split lists seq m n)
+      ∙ filter-append (is_old top) (rows_from lists g kind seq m) (rows_from lists g kind (seq + m) n)
+      ∙ ap (λ (rs : List Listed). rs ++ old_of top (rows_from lists g kind (seq + m) n)) (all_old lists top seq m (omega arith))
+      ∙ ap (λ (rs : List Listed). rows_from lists g kind seq m ++ rs) (none_old lists top (seq + m) n (omega arith))
+      ∙ append-nil (rows_from lists g kind seq m)
 
   -- ---- the oldest list in front of the next
 

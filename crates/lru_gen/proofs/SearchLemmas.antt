@@ -23,45 +23,45 @@ use Rattle.lru_gen.proofs.SoundLemmas.{has_list, row_stands}
 
 -- ---- the first page from a turn on
 
--- the first page of the last turns of a row
-abbrev pub first_of : List (List ℕ) → ℕ → Kind → ℕ → ℕ → Option ℕ
-first_of lists g k q turn = option_map (λ l. l.page) (slice_get (rows_from lists g k (q + turn) (4 - turn)) 0)
+-- the first page of the last turns of a row that has so many
+abbrev pub first_of : List (List ℕ) → ℕ → Kind → ℕ → ℕ → ℕ → Option ℕ
+first_of lists g k q turns turn = option_map (λ l. l.page) (slice_get (rows_from lists g k (q + turn) (turns - turn)) 0)
 
-module _ (lists : List (List ℕ)) (g : ℕ) (k : Kind) (q : ℕ) where
+module _ (lists : List (List ℕ)) (g : ℕ) (k : Kind) (q turns : ℕ) where
   list_of_turn : (turn : ℕ) → list_at lists (slot g k (q % 4 + turn)) ≡ list_at lists (slot g k (q + turn))
   list_of_turn turn = ap (λ (l : ℕ). list_at lists l) (same_slot g k (q % 4 + turn) (q + turn) (omega arith))
 
-  pub found_here : (turn l : ℕ) → turn < 4 → l ≡ slot g k (q % 4 + turn) → is_some (slice_get (list_at lists l) 0) ≡ true → slice_get (list_at lists l) 0 ≡ first_of lists g k q turn
+  pub found_here : (turn l : ℕ) → turn < turns → l ≡ slot g k (q % 4 + turn) → is_some (slice_get (list_at lists l) 0) ≡ true → slice_get (list_at lists l) 0 ≡ first_of lists g k q turns turn
   unfolding rows_from
   found_here turn l less at some =
-      let left : 4 - turn ≡ suc (3 - turn) = omega arith in
+      let left : turns - turn ≡ suc (turns - (turn + 1)) = omega arith in
       let here = ap (λ (i : ℕ). list_at lists i) at ∙ list_of_turn turn in
       ap (λ (ps : List ℕ). slice_get ps 0) here
-      ∙ go (list_at lists (slot g k (q + turn))) (rows_from lists g k (q + turn + 1) (3 - turn)) (ap (λ (ps : List ℕ). is_some (slice_get ps 0)) (sym here) ∙ some)
+      ∙ go (list_at lists (slot g k (q + turn))) (rows_from lists g k (q + turn + 1) (turns - (turn + 1))) (ap (λ (ps : List ℕ). is_some (slice_get ps 0)) (sym here) ∙ some)
       ∙ ap (λ (n : ℕ). option_map (λ (l : Listed). l.page) (slice_get (rows_from lists g k (q + turn) n) 0)) (sym left)
     where
       go : (ps : List ℕ) (rest : List Listed) → is_some (slice_get ps 0) ≡ true → slice_get ps 0 ≡ option_map (λ (l : Listed). l.page) (slice_get (map (in_seq (q + turn)) ps ++ rest) 0)
       go [] rest h = absurd (false≢true h)
       go (p ∷ ps) rest h = refl
 
-  pub none_here : (turn l : ℕ) → turn < 4 → l ≡ slot g k (q % 4 + turn) → is_some (slice_get (list_at lists l) 0) ≡ false → first_of lists g k q (turn + 1) ≡ first_of lists g k q turn
+  pub none_here : (turn l : ℕ) → turn < turns → l ≡ slot g k (q % 4 + turn) → is_some (slice_get (list_at lists l) 0) ≡ false → first_of lists g k q turns (turn + 1) ≡ first_of lists g k q turns turn
   none_here turn l less at none =
-      let left : 4 - turn ≡ suc (4 - (turn + 1)) = omega arith in
+      let left : turns - turn ≡ suc (turns - (turn + 1)) = omega arith in
       let next : q + (turn + 1) ≡ q + turn + 1 = omega arith in
       let empty : list_at lists (slot g k (q + turn)) ≡ [] =
       sym (list_of_turn turn) ∙ ap (λ (i : ℕ). list_at lists i) (sym at) ∙ go (list_at lists l) none in
-      ap (λ (s : ℕ). option_map (λ (l : Listed). l.page) (slice_get (rows_from lists g k s (4 - (turn + 1))) 0)) next
-      ∙ ap (λ (rs : List Listed). option_map (λ (l : Listed). l.page) (slice_get rs 0)) (rows_less g k lists (q + turn) (4 - (turn + 1)) empty)
+      ap (λ (s : ℕ). option_map (λ (l : Listed). l.page) (slice_get (rows_from lists g k s (turns - (turn + 1))) 0)) next
+      ∙ ap (λ (rs : List Listed). option_map (λ (l : Listed). l.page) (slice_get rs 0)) (rows_less g k lists (q + turn) (turns - (turn + 1)) empty)
       ∙ ap (λ (n : ℕ). option_map (λ (l : Listed). l.page) (slice_get (rows_from lists g k (q + turn) n) 0)) (sym left)
     where
       go : (ps : List ℕ) → is_some (slice_get ps 0) ≡ false → ps ≡ []
       go [] h = refl
       go (p ∷ ps) h = absurd (true≢false h)
 
-  pub none_left : (turn : ℕ) → 4 ≤ turn → first_of lists g k q turn ≡ None
+  pub none_left : (turn : ℕ) → turns ≤ turn → first_of lists g k q turns turn ≡ None
   unfolding rows_from
   none_left turn last =
-      let left : 4 - turn ≡ 0 = omega arith in
+      let left : turns - turn ≡ 0 = omega arith in
       ap (λ (n : ℕ). option_map (λ (l : Listed). l.page) (slice_get (rows_from lists g k (q + turn) n) 0)) left
 
 pub some_mapped : (found : Option PageId) → is_some (option_map (λ (p : PageId). p.0) found) ≡ is_some found
@@ -105,9 +105,9 @@ turn_of : (g : ℕ) (k : Kind) (q turn s l : ℕ) → q ≤ s → s < q + 4 → 
 turn_of g Anon q turn s l low high later last same follows = omega arith
 turn_of g File q turn s l low high later last same follows = omega arith
 
-module _ (lists : List (List ℕ)) (apart : AreApart lists) (g : ℕ) (k : Kind) (q p : ℕ) (listed : has_page p (rows_from lists g k q 4) ≡ true) where
+module _ (lists : List (List ℕ)) (apart : AreApart lists) (g : ℕ) (k : Kind) (q turns : ℕ) (four : turns ≤ 4) (p : ℕ) (listed : has_page p (rows_from lists g k q turns) ≡ true) where
   -- a row parts at the page
-  at_page : (s m n : ℕ) (before after : List ℕ) → s ≡ q + m → m + suc n ≡ 4 → list_at lists (slot g k s) ≡ before ++ p ∷ after → after_in p (rows_from lists g k q 4) ≡ option_map (λ (l : Listed). l.page) (slice_get (map (in_seq s) after ++ rows_from lists g k (s + 1) n) 0)
+  at_page : (s m n : ℕ) (before after : List ℕ) → s ≡ q + m → m + suc n ≡ turns → list_at lists (slot g k s) ≡ before ++ p ∷ after → after_in p (rows_from lists g k q turns) ≡ option_map (λ (l : Listed). l.page) (slice_get (map (in_seq s) after ++ rows_from lists g k (s + 1) n) 0)
   unfolding rows_from
   at_page s m n before after at many stands =
       let early = rows_from lists g k q m in
@@ -123,7 +123,7 @@ module _ (lists : List (List ℕ)) (apart : AreApart lists) (g : ℕ) (k : Kind)
       none_before p before after (subst (λ (ps : List ℕ). IsDistinct eqb ps) stands (apart.once (slot g k s))) in
       let not_first : has_page p (early ++ first) ≡ false =
       has_page-append p early first ∙ ap (λ (b : Bool). b || has_page p first) not_early ∙ has_list p s before ∙ not_before in
-      let whole : rows_from lists g k q 4 ≡ (early ++ first) ++ in_seq s p ∷ (map (in_seq s) after ++ late) =
+      let whole : rows_from lists g k q turns ≡ (early ++ first) ++ in_seq s p ∷ (map (in_seq s) after ++ late) =
       ap (rows_from lists g k q) (sym many)
       ∙ rows_split g k lists q m (suc n)
       ∙ ap (λ (i : ℕ). early ++ rows_from lists g k i (suc n)) (sym at)
@@ -134,27 +134,27 @@ module _ (lists : List (List ℕ)) (apart : AreApart lists) (g : ℕ) (k : Kind)
       ap (after_in p) whole ∙ after_at p (early ++ first) (in_seq s p) (map (in_seq s) after ++ late) not_first refl
 
   -- the list that the page is found on is that of its generation
-  its_list : (l : ℕ) (before after : List ℕ) → list_at lists l ≡ before ++ p ∷ after → slot g k (row_stands lists g k p q 4 listed).seq ≡ l
+  its_list : (l : ℕ) (before after : List ℕ) → list_at lists l ≡ before ++ p ∷ after → slot g k (row_stands lists g k p q turns listed).seq ≡ l
   its_list l before after stands =
-      let found = row_stands lists g k p q 4 listed in
+      let found = row_stands lists g k p q turns listed in
       apart.one p (slot g k found.seq) l found.there (ap (λ (ps : List ℕ). has ps p) stands ∙ has_behind before (p ∷ after) p (has_first p after))
 
-  pub next_on_list : (l next : ℕ) (before after : List ℕ) → list_at lists l ≡ before ++ p ∷ next ∷ after → Some next ≡ after_in p (rows_from lists g k q 4)
+  pub next_on_list : (l next : ℕ) (before after : List ℕ) → list_at lists l ≡ before ++ p ∷ next ∷ after → Some next ≡ after_in p (rows_from lists g k q turns)
   next_on_list l next before after stands =
-      let found = row_stands lists g k p q 4 listed in
+      let found = row_stands lists g k p q turns listed in
       let own = ap (λ (i : ℕ). list_at lists i) (its_list l before (next ∷ after) stands) ∙ stands in
-      sym (at_page found.seq (found.seq - q) (3 - (found.seq - q)) before (next ∷ after) (omega (arith, found.from)) (omega (arith, found.from, found.below)) own)
+      sym (at_page found.seq (found.seq - q) (turns - 1 - (found.seq - q)) before (next ∷ after) (omega (arith, found.from)) (omega (arith, found.from, found.below)) own)
 
-  pub next_in_turn : (l turn : ℕ) (before : List ℕ) → list_at lists l ≡ before ++ p ∷ [] → 1 ≤ turn → turn ≤ 4 → (q + turn) % 4 ≡ (l + 1) % 4 → first_of lists g k q turn ≡ after_in p (rows_from lists g k q 4)
+  pub next_in_turn : (l turn : ℕ) (before : List ℕ) → list_at lists l ≡ before ++ p ∷ [] → 1 ≤ turn → turn ≤ 4 → (q + turn) % 4 ≡ (l + 1) % 4 → first_of lists g k q turns turn ≡ after_in p (rows_from lists g k q turns)
   next_in_turn l turn before stands later last follows =
-      let found = row_stands lists g k p q 4 listed in
+      let found = row_stands lists g k p q turns listed in
       let same = its_list l before [] stands in
       let own = ap (λ (i : ℕ). list_at lists i) same ∙ stands in
-      let turn_is : q + turn ≡ found.seq + 1 = turn_of g k q turn found.seq l found.from found.below later last same follows in
-      let left : 4 - turn ≡ 3 - (found.seq - q) = omega (arith, found.from, found.below) in
-      ap (λ (s : ℕ). option_map (λ (r : Listed). r.page) (slice_get (rows_from lists g k s (4 - turn)) 0)) turn_is
+      let turn_is : q + turn ≡ found.seq + 1 = turn_of g k q turn found.seq l found.from (omega (arith, found.below)) later last same follows in
+      let left : turns - turn ≡ turns - 1 - (found.seq - q) = omega (arith, found.from, found.below) in
+      ap (λ (s : ℕ). option_map (λ (r : Listed). r.page) (slice_get (rows_from lists g k s (turns - turn)) 0)) turn_is
       ∙ ap (λ (n : ℕ). option_map (λ (r : Listed). r.page) (slice_get (rows_from lists g k (found.seq + 1) n) 0)) left
-      ∙ sym (at_page found.seq (found.seq - q) (3 - (found.seq - q)) before [] (omega (arith, found.from)) (omega (arith, found.from, found.below)) own)
+      ∙ sym (at_page found.seq (found.seq - q) (turns - 1 - (found.seq - q)) before [] (omega (arith, found.from)) (omega (arith, found.from, found.below)) own)
 
 -- ---- the list on which a page stands alone
 

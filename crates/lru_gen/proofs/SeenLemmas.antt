@@ -1,17 +1,19 @@
 -- What the tables say of a group that a contract sees, and how a change of it is seen.
-use Rattle.std.proofs.Common.{◌≡◌, ℕ, ◌+◌, ◌*◌, ◌<◌, ◌≤◌, true, List, length, map, get_or, set, sym, ap, subst, ◌∙◌, arith}
+use Rattle.std.proofs.Common.{◌≡◌, ℕ, ◌+◌, ◌-◌, ◌*◌, ◌<◌, ◌≤◌, true, List, length, map, get_or, set, sym, ap, subst, ◌∙◌, arith}
 use Rattle.std.proofs.lemmas.List.{get_or_read, set-get_or}
 use Rattle.machine.specs.declared.record.Kind.{Kind}
 use Rattle.machine.specs.Generations.{Row, Gens, gens_at, row_of, is_listed, is_listed_in, isolated}
+use Rattle.machine.specs.Eviction.{old_of}
 use Rattle.rings.specs.Rings.{RingsOf, list_at, without, AreApart}
 use Rattle.rings.specs.Rings as of_rings
 use Rattle.lru_gen.specs.declared.numbers.Numbers.{Numbers}
 use Rattle.lru_gen.specs.declared.filled.Filled.{Filled}
 use Rattle.lru_gen.specs.Gens.{GensOf, gens_of, sets}
 use Rattle.lru_gen.specs.Lists.{slot, lists_of}
-use Rattle.lru_gen.specs.Rows.{first_numbers, numbers_at, oldest, row_in, gens_from, groups_from, room_of, IsWindow, IsTable}
+use Rattle.lru_gen.specs.Rows.{first_numbers, numbers_at, oldest, rows_from, row_in, gens_from, groups_from, room_of, IsWindow, IsTable}
 use Rattle.lru_gen.specs.Filled.{filled_at, no_page, IsKept}
 use Rattle.lru_gen.proofs.SlotLemmas.{slot_in_lists}
+use Rattle.lru_gen.proofs.RowLemmas.{rows_old}
 use Rattle.lru_gen.proofs.GroupLemmas.{Changes, length_groups, group_at, row_from, groups_after}
 use Rattle.lru_gen.proofs.ChangeLemmas.{isolated_changes}
 use Rattle.lru_gen.proofs.SoundLemmas.{listed_stands, same_listed}
@@ -59,6 +61,15 @@ module _ {lists : List (List ℕ)} {numbers : List Numbers} {filled : List Fille
 
   pub row_by_least : (k : Kind) {q : ℕ} → q ≡ (row_of k (gens_of seen g)).min_seq → row_in lists g k q ≡ row_of k (gens_of seen g)
   row_by_least k is = ap (row_in lists g k) (is ∙ sym (least k)) ∙ row_seen k
+
+  -- the pages of so many generations as are old are the old pages of a type
+  pub old_by_least : (k : Kind) {q : ℕ} (old : ℕ) → q ≡ (row_of k (gens_of seen g)).min_seq → (row_of k (gens_of seen g)).min_seq + old + 1 ≡ (gens_of seen g).max_seq → old ≤ 2 → rows_from lists g k q old ≡ old_of (gens_of seen g).max_seq (row_of k (gens_of seen g)).pages
+  old_by_least k {q} old is two few =
+      let four : old + (4 - old) ≡ 4 = omega arith in
+      let top = (gens_of seen g).max_seq in
+      sym (rows_old g k lists top q old (4 - old) (omega arith))
+      ∙ ap (λ (n : ℕ). old_of top (rows_from lists g k q n)) four
+      ∙ ap (λ (r : Row). old_of top r.pages) (row_by_least k is)
 
   -- what is read at the group's number is what stands there
   pub numbers_read : {found : Numbers} → found ≡ get_or numbers g found → found ≡ numbers_at numbers g

@@ -2,7 +2,7 @@
 
 ghost use Rattle.std.specs.Prelude.{◌≡◌, ◌≢◌, ◌+◌, ◌<◌, ◌≤◌, ◌^◌, ◌∷◌, ◌++◌, [], ℕ, true, false, None, length, slice_get, is_some, option_map, option_copied, IfSome, IfOk, OnOk, IsOk};
 ghost use Rattle.machine.specs.Generations.{new_gens, row_of, on_row, has_page, is_listed, is_listed_in, after_in, added, isolated, front_of, merged, raised, advanced, handed_over};
-ghost use Rattle.machine.specs.Eviction.{has_usable};
+ghost use Rattle.machine.specs.Eviction.{has_usable, old_of};
 ghost use Rattle.rings.specs.declared.ring_node.Link.{Link};
 ghost use Rattle.rings.specs.RingNodes.{head_node};
 ghost use Rattle.rings.specs.Rings.{list_at, is_there, last_node, IsLinkOf, KeepsLinksBut};
@@ -185,7 +185,7 @@ impl Gens {
         ensures { option_map (λ p. p.0) result ≡ option_map (λ l. l.page) (slice_get (row_of kind (gens_of self.now group.0)).pages 0) }
     {
         let oldest = self.min_seq(group, kind);
-        first_from(&self.rings, group, kind, oldest, 0)
+        first_from(&self.rings, group, kind, oldest, 0, 4)
     }
 
     /// Whether the group has a reclaimable page: a file page, or an anonymous one if a swap block is free. It reads
@@ -209,7 +209,45 @@ impl Gens {
             RingNode::Page(next) => Some(next),
             RingNode::Head(list) => {
                 let turn = next_turn(list, oldest);
-                first_from(&self.rings, group, kind, oldest, turn)
+                first_from(&self.rings, group, kind, oldest, turn, 4)
+            }
+        }
+    }
+
+    /// How many generations of a type are old: all but the two youngest.
+    fn old_generations(&self, group: GroupId, kind: Kind) -> u64
+        requires { group.0 < length self.now.groups }
+        ensures two { (row_of kind (gens_of self.now group.0)).min_seq + result + 1 ≡ (gens_of self.now group.0).max_seq }
+        ensures few { result ≤ 2 }
+    {
+        self.is_sound();
+        self.max_seq(group) - 1 - self.min_seq(group, kind)
+    }
+
+    /// The first old page of a type: one that is in neither of the two youngest generations.
+    pub fn first_old(&self, group: GroupId, kind: Kind) -> Option<PageId>
+        requires { group.0 < length self.now.groups }
+        ensures { option_map (λ p. p.0) result ≡ option_map (λ l. l.page) (slice_get (old_of (gens_of self.now group.0).max_seq (row_of kind (gens_of self.now group.0)).pages) 0) }
+    {
+        let oldest = self.min_seq(group, kind);
+        let old = self.old_generations(group, kind);
+        first_from(&self.rings, group, kind, oldest, 0, old)
+    }
+
+    /// The page after this one among the old pages of its type.
+    pub fn old_after(&self, group: GroupId, kind: Kind, page: PageId) -> Option<PageId>
+        requires group { group.0 < length self.now.groups }
+        requires listed { has_page page.0 (old_of (gens_of self.now group.0).max_seq (row_of kind (gens_of self.now group.0)).pages) ≡ true }
+        ensures { option_map (λ p. p.0) result ≡ after_in page.0 (old_of (gens_of self.now group.0).max_seq (row_of kind (gens_of self.now group.0)).pages) }
+    {
+        self.rings.lists_are_apart();
+        let oldest = self.min_seq(group, kind);
+        let old = self.old_generations(group, kind);
+        match behind(&self.rings, page) {
+            RingNode::Page(next) => Some(next),
+            RingNode::Head(list) => {
+                let turn = next_turn(list, oldest);
+                first_from(&self.rings, group, kind, oldest, turn, old)
             }
         }
     }

@@ -10,21 +10,22 @@ use machine::id::{GroupId, PageId};
 use machine::record::Kind;
 use rings::{ListId, RingNode, Rings};
 
-/// The first page of a type's generations, from a turn on. The turn of the oldest generation is the
-/// first of four.
+/// The first page of a type in the generations of these turns, the last of them not included. The oldest generation has
+/// turn 0.
 pub fn first_from(
     rings: &Rings,
     group: GroupId,
     kind: Kind,
     oldest: u64,
     turn: u64,
+    end: u64,
 ) -> Option<PageId>
     requires group { group.0 < 2 ^ 28 }
     requires lists { group.0 * 8 + 8 ≤ length rings.now.lists }
-    requires turn { turn ≤ 4 }
-    ensures { option_map (λ p. p.0) result ≡ option_map (λ l. l.page) (slice_get (rows_from rings.now.lists group.0 kind (oldest + turn) (4 - turn)) 0) }
+    requires end { end ≤ 4 }
+    ensures { option_map (λ p. p.0) result ≡ option_map (λ l. l.page) (slice_get (rows_from rings.now.lists group.0 kind (oldest + turn) (end - turn)) 0) }
 {
-    for later in turn..4 {
+    for later in turn..end {
         let page = rings.front(list_of(group, kind, oldest % 4 + later));
         if page.is_some() {
             return page;
@@ -40,7 +41,7 @@ pub fn has_any(rings: &Rings, group: GroupId, kind: Kind, oldest: u64) -> bool
     requires lists { group.0 * 8 + 8 ≤ length rings.now.lists }
     ensures { result ≡ has_any (rows_from rings.now.lists group.0 kind oldest 4) }
 {
-    first_from(rings, group, kind, oldest, 0).is_some()
+    first_from(rings, group, kind, oldest, 0, 4).is_some()
 }
 
 /// The node after a page on its list.

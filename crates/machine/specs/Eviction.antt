@@ -1,5 +1,6 @@
 -- Which page is evicted next (mm/multigen_lru: "Eviction").
 use Rattle.std.specs.Prelude.{◌≡◌, ℕ, zero, suc, ◌+◌, ◌-◌, ◌<◌, ◌&&◌, not, min, nat_lt, Bool, true, false, MatchBool, if◌then◌else◌, List, [], ◌∷◌, ◌++◌, filter, slice_set, Option, Some, None}
+use Rattle.std.specs.List.{list_any}
 use Rattle.machine.specs.Generations.{Listed, Row, Gens, kind_of, added, isolated}
 use Rattle.machine.specs.Aging.{Seen, has_mark, aged}
 
@@ -11,6 +12,10 @@ is_old max_seq l = nat_lt (l.seq + 1) max_seq
 -- those that are not of the two youngest generations
 abbrev pub old_of : ℕ → List Listed → List Listed
 old_of max_seq pages = filter (is_old max_seq) pages
+
+-- an old page of a file is there that is not marked. (Excludes memory, which has to be written out first, and a file that is in use.)
+abbrev pub has_old_file : Seen → Bool
+has_old_file seen = list_any (λ l. not (has_mark seen.marks l)) (old_of seen.gens.max_seq seen.gens.file.pages)
 
 -- the pages before the first that fails the test, and those from it on
 abbrev pub front_run : (Listed → Bool) → List Listed → List Listed

@@ -7,6 +7,8 @@ use Rattle.machine.specs.declared.record.Direction.{Direction}
 use Rattle.machine.specs.declared.record.Direction.TheVariants.{In, Out}
 use Rattle.machine.specs.declared.record.Kind.{Kind}
 use Rattle.machine.specs.declared.record.Kind.TheVariants.{Anon, File}
+use Rattle.machine.specs.declared.event.Goal.{Goal}
+use Rattle.machine.specs.declared.event.Goal.TheVariants.{Amount}
 use Rattle.machine.specs.declared.event.Place.{Place}
 use Rattle.machine.specs.declared.event.Place.TheVariants as place
 use Rattle.machine.specs.declared.event.Event.{Event}
@@ -16,13 +18,13 @@ use Rattle.machine.specs.declared.reply.Reply.TheVariants as reply
 use Rattle.machine.specs.Slots.{there_and, any_there}
 use Rattle.machine.specs.Pages.{Content, Memory, OfFile, Residence, Held, Page, Pages, page_at, is_anon, is_held, is_held_in, is_number, file_page}
 use Rattle.machine.specs.Tasks.{mapped_at}
-use Rattle.machine.specs.Order.{served_by, cursor_at}
+use Rattle.machine.specs.Order.{heeds_age, served_first, cursor_at}
 use Rattle.machine.specs.State.{Opening, State, page_numbers, is_swap_free}
 use Rattle.machine.specs.Tree.{node_at}
-use Rattle.machine.specs.Reclaim.{is_next, target_of}
+use Rattle.machine.specs.Reclaim.{is_next, target_of, goal_of}
 use Rattle.machine.specs.Generations.{Row, Gens, of_kind, row_of, has_page, new_gens, added, gens_at, with_gens, handed_over, IsGens}
 use Rattle.machine.specs.Aging.{Seen, is_marked}
-use Rattle.machine.specs.Eviction.{Picks}
+use Rattle.machine.specs.Eviction.{has_old_file, Picks}
 
 -- the pages in frames that are in no transfer: by group number the generation lists that they are on, and by page number whether a page is marked as accessed
 pub record HeldLists : Type 0 where
@@ -47,13 +49,17 @@ is_next_of s target g page = (page.group == g) && is_next s target page
 abbrev pub gives : State → ℕ → ℕ → Bool
 gives s target g = any_there (is_next_of s target g) s.pages
 
--- the group that gives a page to a reclaim of the target
-abbrev pub served : State → Order → ℕ → Option ℕ
-served s order target = served_by s.tree (gives s target) target (cursor_at order.cursors target)
-
 -- the lists of one group, beside the marks
 abbrev pub seen_of : HeldLists → ℕ → Seen
 seen_of held g = record { gens = gens_at held.groups g; marks = held.marks }
+
+-- it has a page to give, and an old page of a file. (Excludes a group that is protected, and yet asked for its old file.)
+abbrev pub gives_old : State → HeldLists → ℕ → ℕ → Bool
+gives_old s held target g = gives s target g && has_old_file (seen_of held g)
+
+-- the group that gives a page to a reclaim of the target
+abbrev pub served : State → Order → Goal → ℕ → Option ℕ
+served s order goal target = served_first (heeds_age s.opening.placement goal target) s.tree (gives_old s order.held target) (gives s target) target (cursor_at order.cursors target)
 
 -- one group has other lists, and there are other marks
 abbrev pub with_seen : HeldLists → ℕ → Seen → HeldLists
@@ -185,9 +191,9 @@ with_group held = record { groups = held.groups ++ new_gens ∷ []; marks = held
 -- ---- how the order goes on
 
 -- of the group that is served the page that is evicted next is held no more, and the target's cursor names the group. (Excludes one cursor for all targets, and the page of a group taken out of its turn.)
-pub record TakesNext (old : State) (order : Order) (target : ℕ) (new : State) (order' : Order) : Type 0 where
+pub record TakesNext (old : State) (order : Order) (goal : Goal) (target : ℕ) (new : State) (order' : Order) : Type 0 where
   pub g : ℕ
-  pub next : served old order target ≡ Some g
+  pub next : served old order goal target ≡ Some g
   pub p : ℕ
   pub looked : HeldLists
   pub picked : PicksOf (is_swap_free old) order.held g (Some p) looked
@@ -212,10 +218,10 @@ Keeps old order what answer new order' = GoesOn (generation_for old.opening.plac
 
 -- only a page that is taken ages lists and moves a cursor, and only marks that are merged mark pages
 abbrev pub Orders : State → Order → Event → Reply → State → Order → Type 0
-Orders old order (event.Relieve cause) (reply.Out ticket) new order' = TakesNext old order (target_of cause) new order'
-Orders old order (event.Relieve cause) reply.Dropped new order' = TakesNext old order (target_of cause) new order'
-Orders old order (event.ReclaimOne g) (reply.Out ticket) new order' = TakesNext old order g.0 new order'
-Orders old order (event.ReclaimOne g) reply.Dropped new order' = TakesNext old order g.0 new order'
+Orders old order (event.Relieve cause) (reply.Out ticket) new order' = TakesNext old order (goal_of cause) (target_of cause) new order'
+Orders old order (event.Relieve cause) reply.Dropped new order' = TakesNext old order (goal_of cause) (target_of cause) new order'
+Orders old order (event.ReclaimOne g) (reply.Out ticket) new order' = TakesNext old order Amount g.0 new order'
+Orders old order (event.ReclaimOne g) reply.Dropped new order' = TakesNext old order Amount g.0 new order'
 Orders old order (event.Rmdir g) answer new order' = RemovesLists (node_at old.tree g.0).parent g.0 order order'
 Orders old order (event.Mkdir path) answer new order' = AddsLists order order'
 Orders old order (event.MergeMarks word bits) answer new order' = MergesMarks old.pages word bits order.held order'.held × (order'.cursors ≡ order.cursors)

@@ -2,6 +2,10 @@
 use Rattle.std.specs.Prelude.{ℕ, ◌+◌, ◌&&◌, ◌||◌, not, Bool, List, if◌then◌else◌}
 use Rattle.machine.specs.declared.event.Cause.{Cause}
 use Rattle.machine.specs.declared.event.Cause.TheVariants.{Charge, Lower, Frame}
+use Rattle.machine.specs.declared.event.Event.{Event}
+use Rattle.machine.specs.declared.event.Event.TheVariants as event
+use Rattle.machine.specs.declared.event.Goal.{Goal}
+use Rattle.machine.specs.declared.event.Goal.TheVariants.{OnePage, Amount}
 use Rattle.machine.specs.Slots.{any_there}
 use Rattle.machine.specs.Tree.{is_live, under}
 use Rattle.machine.specs.Amounts.{exceeds}
@@ -71,3 +75,14 @@ abbrev pub target_of : Cause → ℕ
 target_of (Charge g) = g.0
 target_of (Lower g) = g.0
 target_of Frame = 0
+
+-- what a cause asks for: a charge and a frame for one page, and a lowered max for as many as are too many
+abbrev pub goal_of : Cause → Goal
+goal_of (Charge g) = OnePage
+goal_of (Lower g) = Amount
+goal_of Frame = OnePage
+
+-- what an event asks for that takes pages: a relief what its cause does, and a reclaim on request an amount
+abbrev pub goal_in : Event → Goal
+goal_in (event.Relieve cause) = goal_of cause
+goal_in what = Amount

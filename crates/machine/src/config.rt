@@ -1,8 +1,11 @@
 //! What the opening of a run determines.
 
 ghost use Rattle.std.specs.Prelude.{◌≡◌, ◌++◌, ◌∷◌, [], OnOk, OnErr};
+ghost use Rattle.machine.specs.Order.{heeds_age};
 ghost use Rattle.machine.specs.State.{are_watermarks, is_sized};
 
+use crate::event::Goal;
+use crate::id::GroupId;
 use crate::limit::{MOST_ENTRIES, MOST_FRAMES, MOST_SWAP};
 use crate::text::Text;
 use std::alloc::{AllocError, Global};
@@ -76,17 +79,31 @@ impl FileList {
     }
 }
 
-/// Which generation list a page enters when it is read in, and whether the access that read it in marks it. Under both
-/// rules, memory that a task makes or copies enters the youngest generation. So does a page that could not be written
-/// out.
+/// Which generation list a page enters when it is read in, whether the access that read it in marks it, and which groups
+/// a reclaim asks first. Under both rules, memory that a task makes or copies enters the youngest generation. So does a
+/// page that could not be written out.
 #[derive(Clone, Copy, Debug, PartialEq, Eq)]
 pub enum Placement {
-    /// Our own rule: every page that is read in enters the second youngest generation, and the access marks it.
+    /// Our own rule: every page that is read in enters the second youngest generation, and the access marks it. A
+    /// reclaim asks all groups by turns.
     Own,
     /// Linux's rule (kernel: `lru_gen_add_folio`): memory that comes from swap enters the youngest generation. A page
     /// of a file enters the second oldest, unless that is one of the two youngest; then it enters the oldest. An
-    /// access to a file doesn't mark a page that it read in.
+    /// access to a file doesn't mark a page that it read in. A reclaim for one page, or below the root, first asks the
+    /// groups with an old page of a file.
     Linux,
+}
+
+impl Placement {
+    /// Whether a reclaim of the target asks the groups with an old page of a file before all others.
+    pub fn heeds_age(self, goal: Goal, target: GroupId) -> bool
+        ensures { result ≡ heeds_age self goal target.0 }
+    {
+        match self {
+            Placement::Own => false,
+            Placement::Linux => goal == Goal::OnePage || target == GroupId::ROOT,
+        }
+    }
 }
 
 /// How large the machine is.

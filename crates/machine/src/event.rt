@@ -35,6 +35,15 @@ pub enum Cause {
     Frame,
 }
 
+/// How many pages a reclaim is asked for.
+#[derive(Clone, Copy, Debug, PartialEq, Eq)]
+pub enum Goal {
+    /// One page: a charge found no room, or no frame was free.
+    OnePage,
+    /// An amount: a request, the daemon, or a lowered max.
+    Amount,
+}
+
 /// A new value for a setting of a group.
 #[derive(Clone, Copy, PartialEq, Eq)]
 pub enum Setting {

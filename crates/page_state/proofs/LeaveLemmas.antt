@@ -2,6 +2,7 @@
 use Rattle.std.proofs.Common.{◌≡◌, ◌∙◌, ◌+◌, ◌<◌, ◌≤◌, ℕ, Bool, false, true, Option, Some, None, refl, sym, ap, subst, arith}
 use Rattle.std.specs.Prelude.{nat_lt, slice_set}
 use Rattle.std.proofs.lemmas.Bool.Decides.{nat_tests}
+use Rattle.machine.specs.declared.event.Goal.{Goal}
 use Rattle.machine.specs.Slots.{there_and}
 use Rattle.machine.specs.Pages.{Content, Memory, OfFile, Page, Held, Going, page_at, home_block, is_anon, is_held, is_held_in, used_swap}
 use Rattle.machine.specs.Reclaim.{is_next}
@@ -68,7 +69,7 @@ picks-of s is looked g p free same picked listed rows ages others =
       others = others;
     }
 
-module _ (s : Inside) (is : IsJoined s) (sound : AreGenerations s.parts.held.lists) (target g : ℕ) (serves : served (joined_of s).tables (joined_of s).order target ≡ Some g) (looked : HeldOf) (p : ℕ) (picks : Picks s looked g p) where
+module _ (s : Inside) (is : IsJoined s) (sound : AreGenerations s.parts.held.lists) (goal : Goal) (target g : ℕ) (serves : served (joined_of s).tables (joined_of s).order goal target ≡ Some g) (looked : HeldOf) (p : ℕ) (picks : Picks s looked g p) where
   abbrev searched : Parts
   searched = record (s.parts) { held = looked }
 
@@ -79,7 +80,7 @@ module _ (s : Inside) (is : IsJoined s) (sound : AreGenerations s.parts.held.lis
       (ap (λ (held : HeldOf). held.numbers) picks.others) is.agree
 
   may : is_next (joined_of s).tables target (labelled picks.label (Held picks.frame)) ≡ true
-  may = given-takes (joined_of s).tables target g (joined_of s).order serves is.agree.held sound p looked.lists picks.label picks.frame picks.group picks.stands picks.picked
+  may = given-takes (joined_of s).tables target g (joined_of s).order goal serves is.agree.held sound p looked.lists picks.label picks.frame picks.group picks.stands picks.picked
 
   -- for memory a swap block is free
   pub leaves-swap : (x : Page) → page_at s.parts.pages.pages p ≡ Some x → is_anon x.content ≡ true → used_swap s.parts.pages.pages < s.parts.slots.blocks
@@ -116,7 +117,7 @@ module _ (s : Inside) (is : IsJoined s) (sound : AreGenerations s.parts.held.lis
     joined_after mapped = joined-pages s is now cursors s.spaces agree stays_all mapped refl refl is.homes (cursors-set s.cursors.cursors cursors.cursors target g moves)
 
     module _ (held : GoesOn Youngest s.parts.pages.pages looked.lists now.pages.pages now.held.lists) where
-      next : is_held_in now.pages.pages p ≡ false → TakesNext (joined_of s).tables (joined_of s).order target (joined_of after).tables (joined_of after).order
+      next : is_held_in now.pages.pages p ≡ false → TakesNext (joined_of s).tables (joined_of s).order goal target (joined_of after).tables (joined_of after).order
       next taken = record { g = g; next = serves; p = p; looked = looked.lists; picked = picks.picked; was = ap (there_and is_held) picks.stands; taken = taken; leaves = held; moves = moves }
 
       ages : (h : ℕ) → (gens_at now.held.lists.groups h).max_seq ≤ (gens_at s.parts.held.lists.groups h).max_seq + 3
@@ -135,7 +136,7 @@ module _ (s : Inside) (is : IsJoined s) (sound : AreGenerations s.parts.held.lis
           joined_after now agree out.stays cursors moves
           (mapped-begun s.parts.pages.pages s.spaces.page_tables is.mapped now.pages.pages p (labelled picks.label (Held picks.frame)) (labelled picks.label (Going picks.frame ticket.block ticket.number)) picks.stands out.begins.placed refl refl)
 
-      begins-out : BeginsWriteOut (joined_of s) (joined_of (record s { parts = now; cursors = cursors })) target g ticket
+      begins-out : BeginsWriteOut (joined_of s) (joined_of (record s { parts = now; cursors = cursors })) goal target g ticket
       begins-out =
           record {
             p = p;
@@ -161,7 +162,7 @@ module _ (s : Inside) (is : IsJoined s) (sound : AreGenerations s.parts.held.lis
       joined-gone : IsJoined (record s { parts = now; cursors = cursors })
       joined-gone = joined_after now agree gone.stays cursors moves (mapped-gone s.parts.pages.pages s.spaces.page_tables is.mapped now.pages.pages p is_file gone.drops.gone)
 
-      drops-clean : DropsClean (joined_of s) (joined_of (record s { parts = now; cursors = cursors })) target g
+      drops-clean : DropsClean (joined_of s) (joined_of (record s { parts = now; cursors = cursors })) goal target g
       drops-clean =
           record {
             p = p;
@@ -182,6 +183,6 @@ module _ (s : Inside) (is : IsJoined s) (sound : AreGenerations s.parts.held.lis
     joined-left (Some ticket) out = joined-out ticket out
     joined-left None gone = let is_clean = dropped-file picks.label.content picks.label.dirty gone.0 in joined-gone is_clean.0 is_clean.1 is_clean.2 is_clean.3 gone.1
 
-    pub takes-page : (result : Option TicketOf) → LeavesSo searched now p picks.label picks.frame result → TakesPage (joined_of s) (joined_of (record s { parts = now; cursors = cursors })) target g result
+    pub takes-page : (result : Option TicketOf) → LeavesSo searched now p picks.label picks.frame result → TakesPage (joined_of s) (joined_of (record s { parts = now; cursors = cursors })) goal target g result
     takes-page (Some ticket) out = begins-out ticket out
     takes-page None gone = let is_clean = dropped-file picks.label.content picks.label.dirty gone.0 in drops-clean is_clean.0 is_clean.1 is_clean.2 is_clean.3 gone.1

@@ -6,7 +6,9 @@ use Rattle.std.proofs.lemmas.Bool.{cases_Bool, and_parts, and_from, and_right, o
 use Rattle.std.proofs.lemmas.Bool.Decides.{nat_tests}
 use Rattle.std.proofs.lemmas.List.Elements.{All-head, All-tail}
 use Rattle.std.proofs.lemmas.List.Folds.{list_any_at}
+use Rattle.std.specs.Option.{option_or}
 use Rattle.machine.specs.declared.amount.Amount.{Amount}
+use Rattle.machine.specs.declared.event.Goal.{Goal}
 use Rattle.machine.specs.declared.id.GroupId.{GroupId}
 use Rattle.machine.specs.declared.id.PageId.{PageId}
 use Rattle.machine.specs.Amounts.{exceeds}
@@ -16,13 +18,13 @@ use Rattle.machine.specs.Pages.{Held, Page, Pages, page_at, is_anon, is_held, is
 use Rattle.machine.specs.declared.record.Guard.{Guard}
 use Rattle.machine.specs.declared.record.Guard.TheVariants.{Min, Low}
 use Rattle.machine.specs.Protection.{effective, setting_of, is_beyond}
-use Rattle.machine.specs.Order.{asking_order, served_by, cursor_at}
+use Rattle.machine.specs.Order.{heeds_age, asking_order, served_by, served_first, cursor_at}
 use Rattle.machine.specs.declared.record.Kind.{Kind}
 use Rattle.machine.specs.declared.record.Kind.TheVariants.{Anon, File}
 use Rattle.machine.specs.Generations.{Listed, Gens, row_of, has_page, is_listed, gens_at}
 use Rattle.machine.specs.Aging.{is_marked}
-use Rattle.machine.specs.Eviction.{is_nil, has_usable}
-use Rattle.machine.specs.Lists.{HeldLists, ListsHeld, AreGenerations, Order, PicksOf, is_held_of, is_next_of, gives, served}
+use Rattle.machine.specs.Eviction.{is_nil, has_usable, has_old_file}
+use Rattle.machine.specs.Lists.{HeldLists, ListsHeld, AreGenerations, Order, PicksOf, is_held_of, is_next_of, seen_of, gives, gives_old, served}
 use Rattle.machine.proofs.SlotLemmas.{any_there-none, count_there-none}
 use Rattle.machine.proofs.TreeLemmas.{eq_cases}
 use Rattle.machine.proofs.HeldChanges.{unheld-unlisted}
@@ -72,6 +74,10 @@ module _ {X : Type 0} where
   find_agree f h [] same = refl
   find_agree f h (x ∷ xs) same =
       ap (λ b. cond b (Some x) (find f xs)) (All-head (λ y. f y ≡ h y) x xs same) ∙ ap (λ rest. cond (h x) (Some x) rest) (find_agree f h xs (All-tail (λ y. f y ≡ h y) x xs same))
+
+  -- what the first of two tests that agree with these finds is what these find
+  option_or-agree : {a b c d : Option X} → a ≡ c → b ≡ d → option_or a b ≡ option_or c d
+  option_or-agree {a} {b} {c} {d} e k = ap (λ x. option_or x b) e ∙ ap (option_or c) k
 
   -- what passes one test passes another
   any_more : (f h : X → Bool) (xs : List X) → ((x : X) → f x ≡ true → h x ≡ true) → list_any f xs ≡ true → list_any h xs ≡ true
@@ -269,8 +275,15 @@ module _ (s : Inside) (is : IsJoined s) where
     abbrev pub NoneListedBy : Bool → List Gens → Bool → Bool → Type 0
     NoneListedBy recursive groups swap_free low_reclaim = (g : ℕ) → is_live s.tree g ≡ true → under s.tree target g ≡ true → listed_by recursive groups swap_free low_reclaim g ≡ false
 
+    -- and has an old page of a file
+    abbrev pub listed_old_by : Bool → List Gens → List Bool → Bool → Bool → ℕ → Bool
+    listed_old_by recursive groups marks swap_free low_reclaim g = listed_by recursive groups swap_free low_reclaim g && has_old_file (record { gens = gens_at groups g; marks = marks })
+
     abbrev listed : Bool → ℕ → Bool
     listed = listed_by tables.opening.recursive s.parts.held.lists.groups free
+
+    abbrev listed_old : Bool → ℕ → Bool
+    listed_old = listed_old_by tables.opening.recursive s.parts.held.lists.groups s.parts.held.lists.marks free
 
     abbrev NoneListed : Bool → Type 0
     NoneListed = NoneListedBy tables.opening.recursive s.parts.held.lists.groups free
@@ -371,14 +384,14 @@ module _ (s : Inside) (is : IsJoined s) where
         by_slot (Some page) e = (and_parts (is_takeable tables target page) _ e).0
 
     -- what the pass says of the group that it finds
-    pub record Found (last : Option ℕ) (found : Served) : Type 0 where
-      pub turn : served_by s.tree (listed found.low_reclaim) target last ≡ Some found.group.0
+    pub record Found (heeds : Bool) (last : Option ℕ) (found : Served) : Type 0 where
+      pub turn : served_first heeds s.tree (listed_old found.low_reclaim) (listed found.low_reclaim) target last ≡ Some found.group.0
       pub live : is_live s.tree found.group.0 ≡ true
       pub below : under s.tree target found.group.0 ≡ true
       pub given : listed found.low_reclaim found.group.0 ≡ true
       pub spared : found.low_reclaim ≡ true → NoneListed false
 
-    module _ (groups : IsGroupTree s.tree) (live : is_live s.tree target ≡ true) (last : Option ℕ) (found : Served) (is_found : Found last found) where
+    module _ (groups : IsGroupTree s.tree) (live : is_live s.tree target ≡ true) (heeds : Bool) (last : Option ℕ) (found : Served) (is_found : Found heeds last found) where
       -- it is the second one exactly where no page is open
       pub passes-low : found.low_reclaim ≡ not (has_open tables target)
       passes-low = by_pass found.low_reclaim is_found.spared (λ e. one_taken found.low_reclaim found.group.0 is_found.live is_found.below is_found.given) refl
@@ -387,14 +400,28 @@ module _ (s : Inside) (is : IsJoined s) where
           by_pass true spared given is = ap not (sym (sym first_pass ∙ none_taken false (spared refl)))
           by_pass false spared given is = ap not (sym (sym first_pass ∙ ap (λ low. any_there (passes_in low) s.parts.pages.pages) (sym is) ∙ given is))
 
-      -- and the group is the one that the table tells
-      pub turn-is : served_by s.tree (gives tables target) target last ≡ Some found.group.0
-      turn-is =
-          find_agree (gives tables target) (listed found.low_reclaim) (asking_order s.tree target last)
-          (λ k d lt.
+      -- each group that is asked gives a page by the table where it does by the lists
+      gives-listed : All (λ g. gives tables target g ≡ listed found.low_reclaim g) (asking_order s.tree target last)
+      gives-listed =
+          λ k d lt.
           let here = asked-order s.tree target last groups live k d lt in
-          ap (λ low. gives_in low (get_or (asking_order s.tree target last) k d)) (sym passes-low) ∙ listed-same found.low_reclaim (get_or (asking_order s.tree target last) k d) here.0 here.1)
-          ∙ is_found.turn
+          ap (λ low. gives_in low (get_or (asking_order s.tree target last) k d)) (sym passes-low) ∙ listed-same found.low_reclaim (get_or (asking_order s.tree target last) k d) here.0 here.1
+
+      -- and the group is the one that the table tells
+      pub turn-is : served_first heeds s.tree (gives_old tables s.parts.held.lists target) (gives tables target) target last ≡ Some found.group.0
+      turn-is = by_age heeds ∙ is_found.turn
+        where
+          by_turns : served_by s.tree (gives tables target) target last ≡ served_by s.tree (listed found.low_reclaim) target last
+          by_turns = find_agree (gives tables target) (listed found.low_reclaim) (asking_order s.tree target last) gives-listed
+
+          old_first : served_by s.tree (gives_old tables s.parts.held.lists target) target last ≡ served_by s.tree (listed_old found.low_reclaim) target last
+          old_first =
+              find_agree (gives_old tables s.parts.held.lists target) (listed_old found.low_reclaim) (asking_order s.tree target last)
+              (λ k d lt. ap (λ b. b && has_old_file (seen_of s.parts.held.lists (get_or (asking_order s.tree target last) k d))) (gives-listed k d lt))
+
+          by_age : (b : Bool) → served_first b s.tree (gives_old tables s.parts.held.lists target) (gives tables target) target last ≡ served_first b s.tree (listed_old found.low_reclaim) (listed found.low_reclaim) target last
+          by_age false = by_turns
+          by_age true = option_or-agree old_first by_turns
 
       pub one-is : has_takeable tables target ≡ true
       one-is = takeable-passes found.low_reclaim (one_taken found.low_reclaim found.group.0 is_found.live is_found.below is_found.given)
@@ -439,19 +466,30 @@ module _ (t : State) (target g : ℕ) where
           }
 
   -- a group that is served has a page to give
-  pub served-gives : (order : Order) → served t order target ≡ Some g → gives t target g ≡ true
-  served-gives order serves = (found-passes (λ (x : ℕ). Unit {0}) (gives t target) (asking_order t.tree target (cursor_at order.cursors target)) g (λ k d lt. tt) serves).1
+  pub served-gives : (order : Order) (goal : Goal) → served t order goal target ≡ Some g → gives t target g ≡ true
+  served-gives order goal serves = by_age (heeds_age t.opening.placement goal target) serves
+    where
+      passes : (test : ℕ → Bool) → served_by t.tree test target (cursor_at order.cursors target) ≡ Some g → test g ≡ true
+      passes test found = (found-passes (λ (x : ℕ). Unit {0}) test (asking_order t.tree target (cursor_at order.cursors target)) g (λ k d lt. tt) found).1
 
-  module _ (order : Order) (serves : served t order target ≡ Some g) (lists : ListsHeld t.pages order.held) where
+      by_front : (front : Option ℕ) → served_by t.tree (gives_old t order.held target) target (cursor_at order.cursors target) ≡ front → option_or front (served_by t.tree (gives t target) target (cursor_at order.cursors target)) ≡ Some g → gives t target g ≡ true
+      by_front None is later = passes (gives t target) later
+      by_front (Some h) is here = (and_parts (gives t target g) _ (passes (gives_old t order.held target) (is ∙ here))).0
+
+      by_age : (b : Bool) → served_first b t.tree (gives_old t order.held target) (gives t target) target (cursor_at order.cursors target) ≡ Some g → gives t target g ≡ true
+      by_age false found = passes (gives t target) found
+      by_age true found = by_front (served_by t.tree (gives_old t order.held target) target (cursor_at order.cursors target)) refl found
+
+  module _ (order : Order) (goal : Goal) (serves : served t order goal target ≡ Some g) (lists : ListsHeld t.pages order.held) where
     -- and one on its lists
     pub given-usable : has_usable (is_swap_free t) (gens_at order.held.groups g) ≡ true
-    given-usable = usable-held t.pages order.held lists (is_swap_free t) g ∙ usable_given (served-gives order serves)
+    given-usable = usable-held t.pages order.held lists (is_swap_free t) g ∙ usable_given (served-gives order goal serves)
 
     -- the page that is picked may be taken, memory where a swap block is free
     pub given-takes : AreGenerations order.held → (p : ℕ) (looked : HeldLists) (label : Label) (f : ℕ) → label.group ≡ g → HasResidence t.pages p label (Held f) → PicksOf (is_swap_free t) order.held g (Some p) looked
         → is_next t target (labelled label (Held f)) ≡ true
     given-takes sound p looked label f own stands picked =
-        let may = may_give (served-gives order serves) in
+        let may = may_give (served-gives order goal serves) in
         and_from (is_takeable t target (labelled label (Held f))) (is_above_low t target label.group || not (has_open t target))
         (and_from (true && under t.tree target label.group && is_unprotected t target label.group) (not (is_anon label.content) || is_swap_free t)
         (and_from (under t.tree target label.group) (is_unprotected t target label.group) (ap (under t.tree target) own ∙ may.below) (ap (is_unprotected t target) own ∙ may.opened))

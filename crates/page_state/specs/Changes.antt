@@ -1,5 +1,6 @@
 -- How the joined parts change: one record for each change, which is one of the machine's tables in all parts at once.
 use Rattle.std.specs.Prelude.{◌≡◌, ◌≢◌, ℕ, ◌+◌, ◌<◌, ◌≤◌, ◌==◌, ◌&&◌, if◌then◌else◌, Bool, false, true, List, [], ◌∷◌, ◌++◌, slice_index, is_some, Option, Some, None, option_map}
+use Rattle.machine.specs.declared.event.Goal.{Goal}
 use Rattle.machine.specs.declared.record.Key.{Key}
 use Rattle.machine.specs.declared.record.Life.{Life}
 use Rattle.machine.specs.declared.record.Life.TheVariants.{Live}
@@ -122,7 +123,7 @@ IsWrittenTo s Memory dirty block = IsFreeBlock s block
 IsWrittenTo s (OfFile file q) dirty block = (dirty ≡ true) × (block ≡ home_block s.opening.swap s.opening.files file q)
 
 -- of the group that is served for the target the page that is next is from now on being written out; the ticket has its bytes
-pub record BeginsWriteOut (old new : StateOf) (target group : ℕ) (ticket : TicketOf) : Type 0 where
+pub record BeginsWriteOut (old new : StateOf) (goal : Goal) (target group : ℕ) (ticket : TicketOf) : Type 0 where
   pub p : ℕ
   pub label : Label
   pub own : label.group ≡ group
@@ -134,12 +135,12 @@ pub record BeginsWriteOut (old new : StateOf) (target group : ℕ) (ticket : Tic
   pub holds : (k : ℕ) → k < page_size → slice_index ticket.bytes k ≡ byte_in new.bytes p k
   pub tables : new.tables ≡ record old.tables { pages = new.tables.pages }
   pub bytes : (q k : ℕ) → byte_in new.bytes q k ≡ byte_in old.bytes q k
-  pub next : TakesNext old.tables old.order target new.tables new.order
+  pub next : TakesNext old.tables old.order goal target new.tables new.order
   -- three generations more are begun at most
   pub ages : (h : ℕ) → (gens_at new.order.held.groups h).max_seq ≤ (gens_at old.order.held.groups h).max_seq + 3
 
 -- of the group that is served the page that is next, one of a file as its home block has it, is gone
-pub record DropsClean (old new : StateOf) (target group : ℕ) : Type 0 where
+pub record DropsClean (old new : StateOf) (goal : Goal) (target group : ℕ) : Type 0 where
   pub p : ℕ
   pub file : ℕ
   pub q : ℕ
@@ -150,14 +151,14 @@ pub record DropsClean (old new : StateOf) (target group : ℕ) : Type 0 where
   pub may : is_next old.tables target (labelled (of_file file q g false) (Held frame)) ≡ true
   pub drops : DropsPage (stored_of old) (stored_of new) p
   pub tables : new.tables ≡ record old.tables { pages = new.tables.pages }
-  pub next : TakesNext old.tables old.order target new.tables new.order
+  pub next : TakesNext old.tables old.order goal target new.tables new.order
   -- three generations more are begun at most
   pub ages : (h : ℕ) → (gens_at new.order.held.groups h).max_seq ≤ (gens_at old.order.held.groups h).max_seq + 3
 
 -- that page begins to be written out under this ticket, or is dropped
-abbrev pub TakesPage : StateOf → StateOf → ℕ → ℕ → Option TicketOf → Type 0
-TakesPage old new target group (Some ticket) = BeginsWriteOut old new target group ticket
-TakesPage old new target group None = DropsClean old new target group
+abbrev pub TakesPage : StateOf → StateOf → Goal → ℕ → ℕ → Option TicketOf → Type 0
+TakesPage old new goal target group (Some ticket) = BeginsWriteOut old new goal target group ticket
+TakesPage old new goal target group None = DropsClean old new goal target group
 
 -- what becomes of a page whose transfer between a frame and a block ends so, with these page tables
 abbrev pub ended_as : End → PageTables → ℕ → Page → ℕ → ℕ → Option Page

@@ -10,6 +10,7 @@ ghost use Rattle.page_state.specs.Changes.{TakesPage};
 
 use crate::joined::State;
 use crate::lookup::is_any_under;
+use machine::event::Goal;
 use machine::id::GroupId;
 use pages::OutTicket;
 use protection::Protection;
@@ -25,9 +26,9 @@ impl State {
 
     /// The group that a reclaim of the target evicts the next page from. There is one exactly if a page is
     /// reclaimable. The reclaim overrides the group's low exactly if no page is open.
-    pub fn next_group(&self, target: GroupId) -> Option<Served>
+    pub fn next_group(&self, goal: Goal, target: GroupId) -> Option<Served>
         requires { is_live self.now.tables.tree target.0 ≡ true }
-        ensures next { IfSome result (λ s. served self.now.tables self.now.order target.0 ≡ Some s.group.0) }
+        ensures next { IfSome result (λ s. served self.now.tables self.now.order goal target.0 ≡ Some s.group.0) }
         ensures live { IfSome result (λ s. is_live self.now.tables.tree s.group.0 ≡ true) }
         ensures low { IfSome result (λ s. s.low_reclaim ≡ not (has_open self.now.tables target.0)) }
         ensures takeable { is_some result ≡ has_takeable self.now.tables target.0 }
@@ -42,10 +43,13 @@ impl State {
             target,
         };
         let swap_free = self.has_swap();
+        let heeds_age = self.config.placement.heeds_age(goal, target);
         let scan = ScanControl {
             protection,
             gens: self.parts.held.gens(),
+            marks: self.parts.held.marks(),
             swap_free,
+            heeds_age,
         };
         self.cursors.next_group(scan)
     }
@@ -65,11 +69,11 @@ impl State {
     /// Evicts the next page of the group that is served. The target's cursor moves to the group. The page
     /// begins to be written out under the ticket. If there is no ticket, it was a clean page of a file, and
     /// is dropped (kernel: shrink_folio_list). Allocates no memory.
-    pub fn take_out(&mut self, target: GroupId, group: GroupId) -> Option<OutTicket>
+    pub fn take_out(&mut self, goal: Goal, target: GroupId, group: GroupId) -> Option<OutTicket>
         requires live { is_live self.old.tables.tree target.0 ≡ true }
-        requires next { served self.old.tables self.old.order target.0 ≡ Some group.0 }
+        requires next { served self.old.tables self.old.order goal target.0 ≡ Some group.0 }
         requires young { AreYoung self.old.order.held }
-        ensures { TakesPage self.old self.new target.0 group.0 result }
+        ensures { TakesPage self.old self.new goal target.0 group.0 result }
     {
         self.parts.held.are_generations();
         let swap_free = self.has_swap();

@@ -1,5 +1,5 @@
 -- Which group gives a page, and that one does wherever one has a page to give.
-use Rattle.std.proofs.Common.{inl, inr, ◌≡◌, ℕ, ◌+◌, ◌==◌, ◌&&◌, ◌||◌, Bool, true, false, if◌then◌else◌, List, [], ◌∷◌, get_or, drop, take, Option, Some, None, refl, sym, ap, ◌∙◌, subst, arith}
+use Rattle.std.proofs.Common.{inl, inr, ◌≡◌, ℕ, ◌+◌, ◌==◌, ◌&&◌, ◌||◌, not, Bool, true, false, if◌then◌else◌, List, [], ◌∷◌, get_or, drop, take, Option, Some, None, refl, sym, ap, ◌∙◌, subst, arith}
 use Rattle.std.specs.Prelude.{find, is_some, All}
 use Rattle.std.specs.Option.{option_or}
 use Rattle.std.specs.List.{list_any}
@@ -8,14 +8,16 @@ use Rattle.std.proofs.lemmas.Bool.Decides.{nat_tests}
 use Rattle.std.proofs.lemmas.List.Elements.{All-head, All-tail, All-append, All-take, All-drop}
 use Rattle.std.proofs.lemmas.List.Folds.{find-append, list_any-append, list_any_at, Any-from_list_any}
 use Rattle.machine.specs.declared.id.GroupId.{GroupId}
-use Rattle.machine.specs.Order.{round_from, place_in, asking_order, served_by}
+use Rattle.machine.specs.Order.{round_from, place_in, asking_order, served_by, served_first}
 use Rattle.machine.specs.Tree.{Node, is_live, under, preorder}
+use Rattle.machine.specs.Eviction.{has_old_file}
+use Rattle.aging.specs.Groups.{seen_at}
 use Rattle.group_tree.specs.Groups.{IsGroupTree}
 use Rattle.group_tree.specs.Tables.{number}
 use Rattle.group_tree.specs.Walk.{behind}
 use Rattle.group_tree.proofs.PreorderLemmas.{preorder-has}
 use Rattle.reclaim.specs.declared.scan_control.ScanControl.{ScanControl}
-use Rattle.reclaim.specs.Pass.{gives_by, IsGiver, GivesNone}
+use Rattle.reclaim.specs.Pass.{gives_by, asked_by, IsGiver, GivesNone}
 use Rattle.reclaim.specs.Walk.{is_at, behind_last, up_to, AreAsked}
 use Rattle.reclaim.proofs.WalkLemmas.{up_to-none, parts}
 
@@ -123,6 +125,35 @@ module _ (tree : List Node) (test : ℕ → Bool) (target : ℕ) (last : Option 
       f ∙ ap (λ gs. find test (up_to gs last)) w
       ∙ sym (parts-find ∙ none_first _ (find test (up_to (preorder tree target) last)) (ap is_some (sym e) ∙ same_some group ∙ none))
 
+-- ---- the groups that are asked first
+module _ (tree : List Node) (old gives : ℕ → Bool) (target : ℕ) (last : Option ℕ) where
+  -- where age is not heeded, there is one pass
+  pub one_pass : (heeds : Bool) (group : Option GroupId) → heeds ≡ false → number group ≡ served_by tree gives target last → number group ≡ served_first heeds tree old gives target last
+  one_pass heeds group is found = rw is found
+
+  -- where it is, what the first pass finds is served
+  pub pass_in_front : (heeds : Bool) (group : Option GroupId) → heeds ≡ true → number group ≡ served_by tree old target last → is_some group ≡ true → number group ≡ served_first heeds tree old gives target last
+  pass_in_front heeds group is found some =
+      found ∙ sym (some_first (served_by tree old target last) (served_by tree gives target last) (ap is_some (sym found) ∙ same_some group ∙ some))
+      ∙ ap (λ b. served_first b tree old gives target last) (sym is)
+
+  -- and else what the second one finds
+  pub pass_behind : (heeds : Bool) (group later : Option GroupId) → heeds ≡ true → number group ≡ served_by tree old target last → is_some group ≡ false → number later ≡ served_by tree gives target last
+      → number later ≡ served_first heeds tree old gives target last
+  pass_behind heeds group later is none_found none found =
+      found ∙ sym (none_first (served_by tree old target last) (served_by tree gives target last) (ap is_some (sym none_found) ∙ same_some group ∙ none))
+      ∙ ap (λ b. served_first b tree old gives target last) (sym is)
+
+-- whether a group is asked: those without an old file are not, in a pass that asks for one
+pub unasked : (sc : ScanControl) (old_files low_reclaim has : Bool) (g : ℕ) → has ≡ has_old_file (seen_at g sc.gens.now sc.marks.now) → (old_files && not has) ≡ true → asked_by sc old_files low_reclaim g ≡ false
+unasked sc true low_reclaim true g is e = absurd cc
+unasked sc true low_reclaim false g is e = rw (sym is) (and_false (gives_by sc low_reclaim g))
+  where
+    and_false : (b : Bool) → (b && false) ≡ false
+    and_false true = refl
+    and_false false = refl
+unasked sc false low_reclaim has g is e = absurd cc
+
 -- ---- one gives a page wherever one has a page to give
 
 turn_here : (t all : Bool) → (all || (t || false)) ≡ (t || all)
@@ -160,16 +191,38 @@ module _ (sc : ScanControl) (low_reclaim : Bool) (groups : IsGroupTree sc.protec
   abbrev target : ℕ
   target = sc.protection.target.0
 
-  -- the group that is served has a page to give
-  pub one-serves : (g : ℕ) → served_by tree (gives_by sc low_reclaim) target last ≡ Some g → IsGiver sc low_reclaim g
+  -- the group that one pass serves has a page to give
+  one-serves : (g : ℕ) → served_by tree (gives_by sc low_reclaim) target last ≡ Some g → IsGiver sc low_reclaim g
   one-serves g found =
       let is = found-passes (λ a. (is_live tree a ≡ true) × (under tree target a ≡ true)) (gives_by sc low_reclaim) (asking_order tree target last) g (asked-order tree target last groups sc.live) found in
       record { live = is.0.0; below = is.0.1; gives = is.1 }
 
-  -- and where none is served, none has
-  pub none-serves : served_by tree (gives_by sc low_reclaim) target last ≡ None → GivesNone sc low_reclaim
+  -- and where it serves none, none has
+  none-serves : served_by tree (gives_by sc low_reclaim) target last ≡ None → GivesNone sc low_reclaim
   none-serves nothing g there below =
       among (gives_by sc low_reclaim) g (preorder tree target)
       (preorder-has tree groups target g sc.live ∙ ap (λ b. b && under tree target g) there ∙ below)
       (sym (around (gives_by sc low_reclaim) (preorder tree target) last) ∙ sym (list_any-append (gives_by sc low_reclaim) (behind_last (preorder tree target) last) (up_to (preorder tree target) last))
       ∙ ap (list_any (gives_by sc low_reclaim)) (parts (preorder tree target) last) ∙ none-passes (gives_by sc low_reclaim) (asking_order tree target last) nothing)
+
+  -- so with the pass in front
+  abbrev asked_first : Bool → Option ℕ
+  asked_first heeds = served_first heeds tree (asked_by sc true low_reclaim) (gives_by sc low_reclaim) target last
+
+  pub first-serves : (heeds : Bool) (g : ℕ) → asked_first heeds ≡ Some g → IsGiver sc low_reclaim g
+  first-serves false g found = one-serves g found
+  first-serves true g found = by_front (served_by tree (asked_by sc true low_reclaim) target last) refl found
+    where
+      by_front : (front : Option ℕ) → served_by tree (asked_by sc true low_reclaim) target last ≡ front → option_or front (served_by tree (gives_by sc low_reclaim) target last) ≡ Some g → IsGiver sc low_reclaim g
+      by_front None is later = one-serves g later
+      by_front (Some h) is here =
+          let found = found-passes (λ a. (is_live tree a ≡ true) × (under tree target a ≡ true)) (asked_by sc true low_reclaim) (asking_order tree target last) g (asked-order tree target last groups sc.live) (is ∙ here) in
+          record { live = found.0.0; below = found.0.1; gives = (and_parts (gives_by sc low_reclaim g) _ found.1).0 }
+
+  pub first-none : (heeds : Bool) → asked_first heeds ≡ None → GivesNone sc low_reclaim
+  first-none false nothing = none-serves nothing
+  first-none true nothing = none-serves (by_front (served_by tree (asked_by sc true low_reclaim) target last) nothing)
+    where
+      by_front : (front : Option ℕ) → option_or front (served_by tree (gives_by sc low_reclaim) target last) ≡ None → served_by tree (gives_by sc low_reclaim) target last ≡ None
+      by_front None later = later
+      by_front (Some h) here = absurd cc

@@ -3,7 +3,8 @@ use Rattle.std.specs.Prelude.{◌≡◌, ℕ, ◌&&◌, ◌||◌, Bool, true, fa
 use Rattle.machine.specs.declared.record.Guard.TheVariants.{Min, Low}
 use Rattle.machine.specs.Tree.{is_live, under}
 use Rattle.machine.specs.Generations.{gens_at}
-use Rattle.machine.specs.Eviction.{has_usable}
+use Rattle.machine.specs.Eviction.{has_usable, has_old_file}
+use Rattle.aging.specs.Groups.{seen_at}
 use Rattle.protection.specs.Effective.{is_beyond_by}
 use Rattle.reclaim.specs.declared.scan_control.ScanControl.{ScanControl}
 
@@ -11,6 +12,11 @@ use Rattle.reclaim.specs.declared.scan_control.ScanControl.{ScanControl}
 -- of a file, or one of memory and a free block in swap for it
 abbrev pub gives_by : ScanControl → Bool → ℕ → Bool
 gives_by sc low_reclaim g = (is_beyond_by sc.protection Min g && (low_reclaim || is_beyond_by sc.protection Low g)) && has_usable sc.swap_free (gens_at sc.gens.now.groups g)
+
+-- so of the groups that a pass asks: all of them, or those alone with an old page of a file
+abbrev pub asked_by : ScanControl → Bool → Bool → ℕ → Bool
+asked_by sc false low_reclaim g = gives_by sc low_reclaim g
+asked_by sc true low_reclaim g = gives_by sc low_reclaim g && has_old_file (seen_at g sc.gens.now sc.marks.now)
 
 -- the group is at or below the target, and has a page to give
 pub record IsGiver (sc : ScanControl) (low_reclaim : Bool) (g : ℕ) : Type 0 where

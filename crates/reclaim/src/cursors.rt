@@ -1,8 +1,8 @@
 //! The cursors of all targets.
 
 ghost use Rattle.std.specs.Prelude.{◌≡◌, ◌+◌, ◌<◌, ◌≤◌, ◌++◌, ◌∷◌, [], true, false, length, slice_set, Some, None, IfSome, IfNone, IfOk, OnOk, OnErr, IsOk};
-ghost use Rattle.machine.specs.Order.{served_by, cursor_at};
-ghost use Rattle.reclaim.specs.Pass.{gives_by, IsGiver, GivesNone};
+ghost use Rattle.machine.specs.Order.{served_first, cursor_at};
+ghost use Rattle.reclaim.specs.Pass.{gives_by, asked_by, IsGiver, GivesNone};
 
 use crate::scan_control::ScanControl;
 use machine::id::GroupId;
@@ -99,12 +99,13 @@ impl Cursors {
     /// no group at or below the target has a page to evict.
     ///
     /// A first pass skips the groups that are within their low. If it finds no group, a second one
-    /// includes them (kernel: memcg_low_skipped, and the retry of do_try_to_free_pages).
+    /// includes them (kernel: memcg_low_skipped, and the retry of do_try_to_free_pages). If age is heeded,
+    /// each of them is two: the groups with an old page of a file are asked before the others.
     pub fn next_group(&self, scan: ScanControl<'_, '_, '_>) -> Option<Served>
         requires { scan.protection.target.0 < length self.now.cursors }
         // It is the next group in the order of the pass that finds it.
-        ensures group { IfSome result (λ s. served_by scan.entry.protection.tree.now (gives_by scan.entry s.low_reclaim) scan.entry.protection.target.0 (cursor_at self.now.cursors scan.entry.protection.target.0) ≡ Some s.group.0) }
-        // The second pass follows only if the first finds no group.
+        ensures group { IfSome result (λ s. served_first scan.entry.heeds_age scan.entry.protection.tree.now (asked_by scan.entry true s.low_reclaim) (gives_by scan.entry s.low_reclaim) scan.entry.protection.target.0 (cursor_at self.now.cursors scan.entry.protection.target.0) ≡ Some s.group.0) }
+        // Groups within their low are included only if no other group has a page to give.
         ensures spared { IfSome result (λ s. s.low_reclaim ≡ true → GivesNone scan.entry false) }
         // A group is found exactly if one has a page to evict.
         ensures giver { IfSome result (λ s. IsGiver scan.entry s.low_reclaim s.group.0) }

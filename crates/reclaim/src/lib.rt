@@ -11,7 +11,8 @@
 //! 3. A pass skips a group while its `memory.min` protects it from a reclaim of the target, or if
 //!    it has no reclaimable page. The first pass also skips the groups that their `memory.low` protects.
 //!    A second pass visits these too, if the first finds no group. Both begin after the group that
-//!    was served last.
+//!    was served last. If age is heeded, a pass that visits only the groups with an old page of a
+//!    file, one that is not marked, comes before each of the two.
 //! 4. A page can be evicted only if there is a place for it. A group therefore loses anonymous pages only
 //!    if a swap block is free; it can always lose pages of files.
 //! 5. The generation lists of the served group determine the page: the crate `eviction` picks it.

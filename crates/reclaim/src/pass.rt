@@ -2,58 +2,85 @@
 
 ghost use Rattle.std.specs.Prelude.{◌≡◌, true};
 ghost use Rattle.std.specs.List.{find};
-ghost use Rattle.machine.specs.Order.{served_by};
+ghost use Rattle.machine.specs.Order.{served_by, served_first};
 ghost use Rattle.machine.specs.Tree.{is_live, under, preorder};
 ghost use Rattle.group_tree.specs.Tables.{number};
-ghost use Rattle.reclaim.specs.Pass.{gives_by};
+ghost use Rattle.reclaim.specs.Pass.{gives_by, asked_by};
 ghost use Rattle.reclaim.specs.Walk.{behind_last, up_to, AreAsked};
 
 use crate::scan_control::ScanControl;
+use eviction::has_old_file;
 use group_tree::Preorder;
 use machine::id::GroupId;
 use machine::record::Guard;
 
 impl<'t, 'c, 'g> ScanControl<'t, 'c, 'g> {
-    /// The group that the target evicts a page from, if `last` was served last. The pass includes the
-    /// groups that their low protects (kernel: memcg_low_reclaim), or skips them.
+    /// The group that the target evicts a page from, if `last` was served last. The passes include the
+    /// groups that their low protects (kernel: memcg_low_reclaim), or skip them. If age is heeded, a first
+    /// pass asks only the groups with an old page of a file.
     pub(crate) fn served(self, low_reclaim: bool, last: Option<GroupId>) -> Option<GroupId>
-        ensures { number result ≡ served_by self.entry.protection.tree.now (gives_by self.entry low_reclaim) self.entry.protection.target.0 (number last) }
+        ensures { number result ≡ served_first self.entry.heeds_age self.entry.protection.tree.now (asked_by self.entry true low_reclaim) (gives_by self.entry low_reclaim) self.entry.protection.target.0 (number last) }
+    {
+        if !self.heeds_age {
+            return self.first_asked(false, low_reclaim, last);
+        }
+        let found = self.first_asked(true, low_reclaim, last);
+        if found.is_some() {
+            return found;
+        }
+        self.first_asked(false, low_reclaim, last)
+    }
+
+    /// The first group in the order of a pass that is asked and has a page to give.
+    fn first_asked(
+        self,
+        old_files: bool,
+        low_reclaim: bool,
+        last: Option<GroupId>,
+    ) -> Option<GroupId>
+        ensures { number result ≡ served_by self.entry.protection.tree.now (asked_by self.entry old_files low_reclaim) self.entry.protection.target.0 (number last) }
     {
         self.protection.tree.groups_form_a_tree();
-        let found = self.first_behind(low_reclaim, last);
+        let found = self.first_behind(old_files, low_reclaim, last);
         if found.is_some() {
             return found;
         }
         let walk = self.protection.tree.preorder(self.protection.target);
-        self.first_to_give(low_reclaim, walk, last)
+        self.first_to_give(old_files, low_reclaim, walk, last)
     }
 
     /// The first group with a page to evict after the group that was served last. The walk begins there,
     /// and does not visit the groups before it.
-    fn first_behind(self, low_reclaim: bool, last: Option<GroupId>) -> Option<GroupId>
-        ensures { number result ≡ find (gives_by self.entry low_reclaim) (behind_last (preorder self.entry.protection.tree.now self.entry.protection.target.0) (number last)) }
+    fn first_behind(
+        self,
+        old_files: bool,
+        low_reclaim: bool,
+        last: Option<GroupId>,
+    ) -> Option<GroupId>
+        ensures { number result ≡ find (asked_by self.entry old_files low_reclaim) (behind_last (preorder self.entry.protection.tree.now self.entry.protection.target.0) (number last)) }
     {
         self.protection.tree.groups_form_a_tree();
         let rest = self
             .protection
             .tree
             .preorder_behind(self.protection.target, last?);
-        self.first_to_give(low_reclaim, rest, None)
+        self.first_to_give(old_files, low_reclaim, rest, None)
     }
 
     /// The first group of a walk that has a page to evict. The walk ends at the group that was served
     /// last.
     fn first_to_give(
         self,
+        old_files: bool,
         low_reclaim: bool,
         walk: Preorder<'_>,
         last: Option<GroupId>,
     ) -> Option<GroupId>
         requires { AreAsked self.protection.tree.now self.protection.target.0 walk }
-        ensures { number result ≡ find (gives_by self.entry low_reclaim) (up_to walk.entry (number last)) }
+        ensures { number result ≡ find (asked_by self.entry old_files low_reclaim) (up_to walk.entry (number last)) }
     {
         for group in walk {
-            if self.gives(low_reclaim, group) {
+            if self.asks(old_files, low_reclaim, group) {
                 return Some(group);
             }
             if Some(group) == last {
@@ -61,6 +88,18 @@ impl<'t, 'c, 'g> ScanControl<'t, 'c, 'g> {
             }
         }
         None
+    }
+
+    /// Whether the pass asks the group, and the group has a page to give.
+    fn asks(self, old_files: bool, low_reclaim: bool, group: GroupId) -> bool
+        requires live { is_live self.protection.tree.now group.0 ≡ true }
+        requires under { under self.protection.tree.now self.protection.target.0 group.0 ≡ true }
+        ensures { result ≡ asked_by self.entry old_files low_reclaim group.0 }
+    {
+        if old_files && !has_old_file(self.gens, self.marks, group) {
+            return false;
+        }
+        self.gives(low_reclaim, group)
     }
 
     /// Whether the target can evict a page of the group.

@@ -3,6 +3,7 @@
 ghost use Rattle.std.specs.Prelude.{◌≡◌, ◌≤◌, true, length};
 ghost use Rattle.machine.specs.Tree.{is_live};
 
+use aging::MarkSet;
 use lru_gen::Gens;
 use protection::Protection;
 
@@ -14,10 +15,16 @@ pub struct ScanControl<'t, 'c, 'g> {
     pub protection: Protection<'t, 'c>,
     /// The reclaimable pages, by group.
     pub gens: &'g Gens,
+    /// Which pages are marked as accessed.
+    pub marks: &'g MarkSet,
     /// Whether a swap block is free (kernel: may_swap).
     pub swap_free: bool,
+    /// Whether the groups with an old page of a file are asked before all others.
+    pub heeds_age: bool,
     /// The target is live.
     pub ghost live: { is_live protection.tree.now protection.target.0 ≡ true },
     /// Each group has lists.
     pub ghost listed: { length protection.tree.now ≤ length gens.now.groups },
+    /// Each page has a mark.
+    pub ghost marked: { gens.now.pages ≤ length marks.now },
 }

@@ -14,12 +14,12 @@ take_out-requires-clause-next c = rw c.count_low.ensures c.requires.sound.1
 pub returns-in-Some : goal.returns-in-Some
 returns-in-Some c =
     let s = c.args.state.now in
-    carries-out s c.take_out.new.self c.args.target c.args.served c.in-Some.ticket
-    (subst (λ (ticket : Option TicketOf). TakesPage (with_counted s (counted_for s.tables c.args.served)) c.take_out.new.self c.args.target.0 c.args.served.group.0 ticket) c.in-Some.is (rw c.count_low.ensures at c.take_out.ensures))
+    carries-out s c.take_out.new.self c.args.goal c.args.target c.args.served c.in-Some.ticket
+    (subst (λ (ticket : Option TicketOf). TakesPage (with_counted s (counted_for s.tables c.args.served)) c.take_out.new.self c.args.goal c.args.target.0 c.args.served.group.0 ticket) c.in-Some.is (rw c.count_low.ensures at c.take_out.ensures))
 
 pub returns-in-None : goal.returns-in-None
 returns-in-None c =
     let s = c.args.state.now in
-    carries-dropped s c.take_out.new.self (record { first = s.tables.opening.swap; sizes = s.tables.opening.files }) c.args.target c.args.served
+    carries-dropped s c.take_out.new.self (record { first = s.tables.opening.swap; sizes = s.tables.opening.files }) c.args.goal c.args.target c.args.served
     c.is_joined.ensures.filed
-    (subst (λ (ticket : Option TicketOf). TakesPage (with_counted s (counted_for s.tables c.args.served)) c.take_out.new.self c.args.target.0 c.args.served.group.0 ticket) c.in-None.is (rw c.count_low.ensures at c.take_out.ensures))
+    (subst (λ (ticket : Option TicketOf). TakesPage (with_counted s (counted_for s.tables c.args.served)) c.take_out.new.self c.args.goal c.args.target.0 c.args.served.group.0 ticket) c.in-None.is (rw c.count_low.ensures at c.take_out.ensures))

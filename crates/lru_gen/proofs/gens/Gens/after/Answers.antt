@@ -1,4 +1,4 @@
-use Rattle.std.proofs.Common.{◌≡◌, true, ap, ◌∙◌}
+use Rattle.std.proofs.Common.{◌≡◌, true, ap, ◌∙◌, arith}
 use Rattle.machine.specs.Generations.{Row, has_page, after_in}
 use Rattle.lru_gen.specs.Rows.{rows_from}
 use Rattle.rings.proofs.ListLemmas.{listed_from}
@@ -23,14 +23,14 @@ behind-requires c =
 pub first_from-requires : goal.first_from-requires
 first_from-requires c =
     let h = group_seen c.self.view_is c.self.invariant c.requires.group in
-    record { group = h.few; lists = h.lists_within; turn = c.next_turn-turn.ensures.last }
+    record { group = h.few; lists = h.lists_within; end = omega arith }
 
 pub returns-in-Page : goal.returns-in-Page
 returns-in-Page c =
     let h = group_seen c.self.view_is c.self.invariant c.requires.group in
     let p = c.args.page.0 in
     let next = c.in-Page.ensures in
-    next_on_list c.self.inside.rings.lists c.lists_are_apart.ensures.apart c.args.group.0 c.args.kind _ p (listed (goal.at.returns-in-Page c).After-min_seq-oldest) next.0 c.in-Page.next.0 next.1 next.2 next.3
+    next_on_list c.self.inside.rings.lists c.lists_are_apart.ensures.apart c.args.group.0 c.args.kind _ 4 (omega arith) p (listed (goal.at.returns-in-Page c).After-min_seq-oldest) next.0 c.in-Page.next.0 next.1 next.2 next.3
     ∙ ap (λ (r : Row). after_in p r.pages) (row_by_least h c.args.kind c.min_seq-oldest.ensures)
 
 pub returns-in-Head : goal.returns-in-Head
@@ -40,5 +40,5 @@ returns-in-Head c =
     let last = c.in-Head.ensures in
     let turn = c.next_turn-turn.ensures in
     c.first_from.ensures
-    ∙ next_in_turn c.self.inside.rings.lists c.lists_are_apart.ensures.apart c.args.group.0 c.args.kind _ p (listed (goal.at.returns-in-Head c).After-min_seq-oldest) c.in-Head.list.0 c.next_turn-turn.result last.0 last.1 turn.later turn.last turn.next
+    ∙ next_in_turn c.self.inside.rings.lists c.lists_are_apart.ensures.apart c.args.group.0 c.args.kind _ 4 (omega arith) p (listed (goal.at.returns-in-Head c).After-min_seq-oldest) c.in-Head.list.0 c.next_turn-turn.result last.0 last.1 turn.later turn.last turn.next
     ∙ ap (λ (r : Row). after_in p r.pages) (row_by_least h c.args.kind c.min_seq-oldest.ensures)

@@ -7,7 +7,7 @@ use Rattle.lru_gen.proofs.gens.Gens.first.Goals as goal
 pub first_from-requires : goal.first_from-requires
 first_from-requires c =
     let h = group_seen c.self.view_is c.self.invariant c.requires in
-    record { group = h.few; lists = h.lists_within; turn = omega arith }
+    record { group = h.few; lists = h.lists_within; end = omega arith }
 
 pub returns : goal.returns
 returns c =

@@ -4,11 +4,11 @@ use Rattle.machine.specs.Tree.{is_live, under}
 use Rattle.machine.specs.Generations.{Gens}
 use Rattle.group_tree.proofs.LineageLemmas.{live-within}
 use Rattle.machine.specs.State.{is_swap_free}
-use Rattle.machine.specs.Order.{served_by, cursor_at}
+use Rattle.machine.specs.Order.{served_first, cursor_at}
 use Rattle.page_state.specs.States.{StateOf}
 use Rattle.page_state.specs.Joined.{joined_of}
 use Rattle.reclaim.specs.declared.cursors.Served.{Served}
-use Rattle.page_state.proofs.NextLemmas.{listed_by, NoneListedBy, Found, turn-is, passes-low, one-is, none-is}
+use Rattle.page_state.proofs.NextLemmas.{listed_by, listed_old_by, NoneListedBy, Found, turn-is, passes-low, one-is, none-is}
 use Rattle.page_state.proofs.joined.State.next_group.Goals as goal
 
 pub next_group-requires : goal.next_group-requires
@@ -46,45 +46,49 @@ module _ (c : goal.After-next_group) where
   abbrev listed : Bool → List Gens → Bool → Bool → ℕ → Bool
   listed = listed_by c.self.inside c.self.invariant c.groups_form_a_tree.ensures.earlier_parents c.args.target.0
 
+  abbrev listed_old : Bool → List Gens → List Bool → Bool → Bool → ℕ → Bool
+  listed_old = listed_old_by c.self.inside c.self.invariant c.groups_form_a_tree.ensures.earlier_parents c.args.target.0
+
   abbrev none_listed : Bool → List Gens → Bool → Bool → Type 0
   none_listed = NoneListedBy c.self.inside c.self.invariant c.groups_form_a_tree.ensures.earlier_parents c.args.target.0
 
   -- what the pass goes by is what the table has
-  by_table : (P : Bool → List Gens → Bool → Type 0) → P c.is_recursive-recursive.result c.gens.result.now.groups c.has_swap-swap_free.result
-      → P (joined_of c.self.inside).tables.opening.recursive c.self.inside.parts.held.lists.groups (is_swap_free (joined_of c.self.inside).tables)
+  by_table : (P : Bool → List Gens → List Bool → Bool → Type 0) → P c.is_recursive-recursive.result c.gens.result.now.groups c.marks.result.now c.has_swap-swap_free.result
+      → P (joined_of c.self.inside).tables.opening.recursive c.self.inside.parts.held.lists.groups c.self.inside.parts.held.lists.marks (is_swap_free (joined_of c.self.inside).tables)
   by_table P h =
-      subst (λ (b : Bool). P (joined_of c.self.inside).tables.opening.recursive c.self.inside.parts.held.lists.groups b) swap
-      (subst (λ (gs : List Gens). P (joined_of c.self.inside).tables.opening.recursive gs c.has_swap-swap_free.result) c.gens.ensures.groups
-      (subst (λ (r : Bool). P r c.gens.result.now.groups c.has_swap-swap_free.result) recursive h))
+      subst (λ (b : Bool). P (joined_of c.self.inside).tables.opening.recursive c.self.inside.parts.held.lists.groups c.self.inside.parts.held.lists.marks b) swap
+      (subst (λ (ms : List Bool). P (joined_of c.self.inside).tables.opening.recursive c.self.inside.parts.held.lists.groups ms c.has_swap-swap_free.result) c.marks.ensures.marks
+      (subst (λ (gs : List Gens). P (joined_of c.self.inside).tables.opening.recursive gs c.marks.result.now c.has_swap-swap_free.result) c.gens.ensures.groups
+      (subst (λ (r : Bool). P r c.gens.result.now.groups c.marks.result.now c.has_swap-swap_free.result) recursive h)))
 
   abbrev last : Option ℕ
   last = cursor_at c.self.inside.cursors.cursors c.args.target.0
 
   abbrev IsFound : Served → Type 0
-  IsFound = Found c.self.inside c.self.invariant c.groups_form_a_tree.ensures.earlier_parents c.args.target.0 last
+  IsFound = Found c.self.inside c.self.invariant c.groups_form_a_tree.ensures.earlier_parents c.args.target.0 c.heeds_age-heeds_age.result last
 
-  abbrev pass : Bool → List Gens → Bool → Served → Type 0
-  pass r gs b s = (served_by c.self.inside.tree (listed r gs b s.low_reclaim) c.args.target.0 last ≡ Some s.group.0) × (s.low_reclaim ≡ true → none_listed r gs b false) × (is_live c.self.inside.tree s.group.0 ≡ true) × (under c.self.inside.tree c.args.target.0 s.group.0 ≡ true) × (listed r gs b s.low_reclaim s.group.0 ≡ true)
+  abbrev pass : Bool → List Gens → List Bool → Bool → Served → Type 0
+  pass r gs ms b s = (served_first c.heeds_age-heeds_age.result c.self.inside.tree (listed_old r gs ms b s.low_reclaim) (listed r gs b s.low_reclaim) c.args.target.0 last ≡ Some s.group.0) × (s.low_reclaim ≡ true → none_listed r gs b false) × (is_live c.self.inside.tree s.group.0 ≡ true) × (under c.self.inside.tree c.args.target.0 s.group.0 ≡ true) × (listed r gs b s.low_reclaim s.group.0 ≡ true)
 
-  passed : IfSome c.next_group.result (pass c.is_recursive-recursive.result c.gens.result.now.groups c.has_swap-swap_free.result)
+  passed : IfSome c.next_group.result (pass c.is_recursive-recursive.result c.gens.result.now.groups c.marks.result.now c.has_swap-swap_free.result)
   passed = in_some c.next_group.result c.next_group.ensures.group c.next_group.ensures.spared c.next_group.ensures.giver (λ s group spared giver. (group, spared, giver.live, giver.below, giver.gives))
 
   found : IfSome c.next_group.result IsFound
   found = by_result c.next_group.result passed
     where
-      by_result : (o : Option Served) → IfSome o (pass c.is_recursive-recursive.result c.gens.result.now.groups c.has_swap-swap_free.result) → IfSome o IsFound
+      by_result : (o : Option Served) → IfSome o (pass c.is_recursive-recursive.result c.gens.result.now.groups c.marks.result.now c.has_swap-swap_free.result) → IfSome o IsFound
       by_result None is = tt
       by_result (Some s) is =
-          let told = by_table (λ r gs b. pass r gs b s) is in
+          let told = by_table (λ r gs ms b. pass r gs ms b s) is in
           record { turn = told.0; live = told.2; below = told.3; given = told.4; spared = told.1 }
 
   none : IfNone c.next_group.result (none_listed (joined_of c.self.inside).tables.opening.recursive c.self.inside.parts.held.lists.groups (is_swap_free (joined_of c.self.inside).tables) true)
-  none = by_table (λ r gs b. IfNone c.next_group.result (none_listed r gs b true)) c.next_group.ensures.none
+  none = by_table (λ r gs ms b. IfNone c.next_group.result (none_listed r gs b true)) c.next_group.ensures.none
 
 pub returns-clause-next : goal.returns-clause-next
 returns-clause-next c =
-    rw (← c.self.view_is)
-    (with_it c.next_group.result (found c) (λ s is. turn-is c.self.inside c.self.invariant c.groups_form_a_tree.ensures.earlier_parents c.args.target.0 c.groups_form_a_tree.ensures (live c) (last c) s is))
+    rw (← c.self.view_is, ← c.heeds_age-heeds_age.ensures)
+    (with_it c.next_group.result (found c) (λ s is. turn-is c.self.inside c.self.invariant c.groups_form_a_tree.ensures.earlier_parents c.args.target.0 c.groups_form_a_tree.ensures (live c) c.heeds_age-heeds_age.result (last c) s is))
 
 pub returns-clause-live : goal.returns-clause-live
 returns-clause-live c = rw (← c.self.view_is) (with_it c.next_group.result (found c) (λ s is. is.live))
@@ -92,11 +96,11 @@ returns-clause-live c = rw (← c.self.view_is) (with_it c.next_group.result (fo
 pub returns-clause-low : goal.returns-clause-low
 returns-clause-low c =
     rw (← c.self.view_is)
-    (with_it c.next_group.result (found c) (λ s is. passes-low c.self.inside c.self.invariant c.groups_form_a_tree.ensures.earlier_parents c.args.target.0 c.groups_form_a_tree.ensures (live c) (last c) s is))
+    (with_it c.next_group.result (found c) (λ s is. passes-low c.self.inside c.self.invariant c.groups_form_a_tree.ensures.earlier_parents c.args.target.0 c.groups_form_a_tree.ensures (live c) c.heeds_age-heeds_age.result (last c) s is))
 
 pub returns-clause-takeable : goal.returns-clause-takeable
 returns-clause-takeable c =
     rw (← c.self.view_is)
     (some_or_none c.next_group.result _ (found c) (none c)
-    (λ s is. one-is c.self.inside c.self.invariant c.groups_form_a_tree.ensures.earlier_parents c.args.target.0 c.groups_form_a_tree.ensures (live c) (last c) s is)
+    (λ s is. one-is c.self.inside c.self.invariant c.groups_form_a_tree.ensures.earlier_parents c.args.target.0 c.groups_form_a_tree.ensures (live c) c.heeds_age-heeds_age.result (last c) s is)
     (none-is c.self.inside c.self.invariant c.groups_form_a_tree.ensures.earlier_parents c.args.target.0))
