@@ -171,7 +171,7 @@ async function tryScripts(examples) {
   await run(examples.find((each) => each.kind === 'script' && each.name === 'service_reads_a_log').text);
   same('placed by our own rule', lastAnswer(), '0');
   await set('as_linux', true);
-  same('placed as Linux does', lastAnswer(), '40960');
+  same('placed as Linux does', lastAnswer(), '163840');
   await set('as_linux', false);
 
   await run('group /a\ngroup /a b\ntask 1 /a\n');
