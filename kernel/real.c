@@ -9,6 +9,7 @@
  * The script's root is the group /cg/s, each task is a process, and a page of the script is a chunk of memory, 8 MiB, or
  * what a line "#linux page AMOUNT" of the script says. Amounts of bytes are printed in pages of the script, with two decimals.
  * Limits get an eighth of a page on top, for what the kernel charges besides: page tables, stacks, memory of its own.
+ * With a line "#linux root", memory.reclaim of / is that of the machine's root.
  * Files lie in /mnt. Swap is what is on, of which the script's root may use as many pages as the script says.
  *
  * docs/LINUX.md describes this, and docs/KERNEL.md has the answers. */
@@ -425,11 +426,15 @@ static void scale(const char *file, const char *amount, char *text, size_t size)
         snprintf(text, size, "%ld", pages * page + (is_limit(file) && pages ? slack : 0));
 }
 
+/* Whether the script has a line "#linux root". */
+static bool reclaims_machine;
+
 static void set_file(void)
 {
     char text[64];
+    bool of_machine = reclaims_machine && !strcmp(word[1], "/") && !strcmp(word[2], "memory.reclaim");
     scale(word[2], word[3], text, sizeof text);
-    int error = write_text(path_of(word[1], word[2]), text);
+    int error = write_text(of_machine ? "/cg/memory.reclaim" : path_of(word[1], word[2]), text);
     tell_kills();
     answer_error(error);
 }
@@ -457,6 +462,31 @@ static void show_line(const char *file, char *line)
     }
 }
 
+/* With LOOK=y, the generations of the machine's root and of each group of the script, a line each: "# lru GROUP", and for each
+ * generation its number and its pages of memory and of files, as in " 3:4.00/0.50". */
+static void show_generations(void)
+{
+    static char text[MAX_TEXT * 4];
+    bool shown = false;
+    if (read_text("/dbg/lru_gen", text, sizeof text))
+        return;
+    for (char *line = strtok(text, "\n"); line; line = strtok(NULL, "\n")) {
+        char group[128];
+        long number, age, anon, file;
+        if (sscanf(line, "memcg %*d %127s", group) == 1) {
+            if (shown)
+                printf("\n");
+            shown = !strcmp(group, "/") || !strcmp(group, "/s") || !strncmp(group, "/s/", 3);
+            if (shown)
+                printf("# lru %s", group);
+        } else if (shown && sscanf(line, "%ld %ld %ld %ld", &number, &age, &anon, &file) == 4) {
+            printf(" %ld:%.2f/%.2f", number, in_pages(anon * REAL_PAGE), in_pages(file * REAL_PAGE));
+        }
+    }
+    if (shown)
+        printf("\n");
+}
+
 static void show_file(void)
 {
     static char text[MAX_TEXT];
@@ -465,6 +495,7 @@ static void show_file(void)
     for (char *line = strtok(text, "\n"); line; line = strtok(NULL, "\n"))
         show_line(word[2], line);
     answer_error(error);
+    show_generations();
 }
 
 /* ---- a task's lines */
@@ -574,6 +605,8 @@ static void note_header(bool counts)
 {
     if (!counts && words == 3 && !strcmp(word[0], "#linux") && !strcmp(word[1], "page"))
         page = atol(word[2]) * (strchr(word[2], 'M') ? 1 << 20 : 1 << 10);
+    else if (!counts && words == 2 && !strcmp(word[0], "#linux") && !strcmp(word[1], "root"))
+        reclaims_machine = true;
     else if (!strcmp(word[0], "swap"))
         swap_pages = atol(word[1]);
     else if (!strcmp(word[0], "recursiveprot"))
