@@ -89,7 +89,7 @@ pub enum Placement {
     Own,
     /// Linux's rule (kernel: `lru_gen_add_folio`): memory that comes from swap enters the youngest generation. A page
     /// of a file enters the second oldest, unless that is one of the two youngest; then it enters the oldest. An
-    /// access to a file doesn't mark a page that it read in. A reclaim for one page, or below the root, first asks the
+    /// access to a file doesn't mark a page that it read in. A reclaim for one page, or of the root, first asks the
     /// groups with an old page of a file.
     Linux,
 }
