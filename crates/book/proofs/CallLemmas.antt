@@ -17,7 +17,7 @@ use Rattle.machine.specs.Pages.{in_transfer}
 use Rattle.pages.specs.Tickets.{TicketOf}
 use Rattle.pages.specs.declared.end.End.{End}
 use Rattle.pages.specs.declared.end.End.TheVariants.{InFrame, OnBlock}
-use Rattle.book.specs.Events.{ended}
+use Rattle.book_events.specs.Events.{ended}
 use Rattle.machine.specs.State.{Opening, State, page_numbers}
 use Rattle.machine.specs.Slots.{at}
 use Rattle.machine.specs.Refusals.{refusal}

@@ -34,13 +34,13 @@ use Rattle.pages.specs.declared.source.Source.{Source}
 use Rattle.pages.specs.declared.source.Source.TheVariants as source
 use Rattle.pages.specs.Transfers.{ReadsFrom}
 use Rattle.page_state.specs.Changes.{files_of, counts_event, counts_events, MakesPage, BeginsReadIn, BeginsRead, BeginsWriteOut, DropsClean, EndsTask, EndsTasks, sets_in}
-use Rattle.book.specs.declared.event.Reply.{Reply as Given}
-use Rattle.book.specs.declared.event.Reply.TheVariants as given
+use Rattle.book_events.specs.declared.event.Reply.{Reply as Given}
+use Rattle.book_events.specs.declared.event.Reply.TheVariants as given
 use Rattle.book.specs.declared.decision.Meeting.{Meeting}
 use Rattle.book.specs.declared.decision.Meeting.TheVariants as meeting
 use Rattle.book.specs.declared.decision.Decision.TheVariants as decision
-use Rattle.book.specs.Events.{reply_of}
-use Rattle.book.specs.Replies.{IsAccessReply, IsReliefReply, IsReclaimReply}
+use Rattle.book_events.specs.Events.{reply_of}
+use Rattle.book_events.specs.Replies.{IsAccessReply, IsReliefReply, IsReclaimReply}
 use Rattle.book.specs.Effects.{knows}
 use Rattle.book.specs.MakesStep.{MakesStep, GivesTicket, RepliesTo}
 use Rattle.book.proofs.EndLemmas.{IsStuck, makes_step-kill, makes_step-kill_all}

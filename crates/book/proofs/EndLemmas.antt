@@ -25,7 +25,7 @@ use Rattle.machine.specs.History.{Spot, InTask, InFile}
 use Rattle.machine.proofs.Values.{unlike}
 use Rattle.page_state.specs.States.{StateOf}
 use Rattle.book.specs.Decisions.{with_counted}
-use Rattle.book.specs.Spots.{IsThere}
+use Rattle.book_events.specs.Spots.{IsThere}
 use Rattle.book.specs.Effects.{byte_at_spot, KnowsSpot, WasByte, ReadsByte}
 use Rattle.page_state.specs.Changes.{EndsTask, EndsTasks}
 use Rattle.page_state.proofs.DropLemmas.{moving_alike}

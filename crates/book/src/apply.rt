@@ -11,7 +11,7 @@ ghost use Rattle.book.specs.declared.decision.Decision.TheVariants as decision;
 ghost use Rattle.book.specs.declared.decision.Meeting.TheVariants as meeting;
 
 use crate::decision::{Decision, Meeting, PageFault};
-use crate::event::Reply;
+use book_events::Reply;
 use machine::event::{Goal, Op, Query, Setting};
 use machine::id::{FrameId, GroupId, PageId, TaskId};
 use machine::record::{Key, Life};

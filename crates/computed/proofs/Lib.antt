@@ -27,6 +27,7 @@ mod ControlExamples
 mod GenerationExamples
 mod HeldExamples
 mod UsedExamples
+mod FifthExamples
 mod ListedExamples
 mod FileListedExamples
 mod MarkedExamples

@@ -35,7 +35,7 @@ use schedules::{Entry, Line, Steps};
 use std::alloc::{AllocError, Global};
 use trace::Trace;
 use turns::automaton::{ask, told};
-use turns::judge::judge;
+use judging::judge::judge;
 use turns::turn::{Pending, Stage, Transition, Want};
 
 /// It must be closed.

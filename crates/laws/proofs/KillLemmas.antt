@@ -26,7 +26,7 @@ use Rattle.machine.specs.Step.{EndsTasks, KillStep, Step}
 use Rattle.machine.specs.Legal.{Legal}
 use Rattle.machine.proofs.Values.{some_inj, unlike}
 use Rattle.machine.proofs.TreeLemmas.{eq_cases, under_at-None, under_at-step}
-use Rattle.machine.proofs.KillGroupLemmas.{candidate-parts, IsHighest, above_parent, kill_group-highest}
+use Rattle.oom.proofs.KillGroupLemmas.{candidate-parts, IsHighest, above_parent, kill_group-highest}
 use Rattle.legal.proofs.SoundLemmas.{legal-sound}
 use Rattle.legal.proofs.CountedLemmas.{step-counted}
 use Rattle.legal.proofs.NamedLemmas.{step-counts}

@@ -29,7 +29,7 @@ use Rattle.machine.specs.Events.{took_for, counts_named, low_named, NamesFor, Na
 use Rattle.machine.proofs.Values.{some_inj}
 use Rattle.machine.proofs.TreeLemmas.{eq_cases}
 use Rattle.machine.proofs.TestLemmas.{none_has}
-use Rattle.machine.proofs.TakeableLemmas.{next-takeable, next-open}
+use Rattle.page_lists.proofs.TakeableLemmas.{next-takeable, next-open}
 use Rattle.counts.proofs.CountLemmas.{local-push}
 use Rattle.protection.proofs.EffectiveLemmas.{same_below}
 use Rattle.legal.proofs.CountedLemmas.{Counts, step-counted, local-other}

@@ -32,7 +32,7 @@ use Rattle.machine.specs.Victim.{is_live_under, killed_with, counts_of_killed, c
 use Rattle.machine.specs.Step.{ChargeStep, HitStep, UnmappedStep, MeetStep, LifeStep, TaskStep, StartsLeave, Drops, LeavesBy, LeavesFrom, Takes, ReclaimStep, KillStep, Step}
 use Rattle.machine.specs.Legal.{Legal}
 use Rattle.machine.specs.Events.{counts_named, took_for, low_named, NamesTaken, NamesFor, Names, for_groups}
-use Rattle.machine.proofs.TakeableLemmas.{next-takeable, takeable-held, taken-named}
+use Rattle.page_lists.proofs.TakeableLemmas.{next-takeable, takeable-held, taken-named}
 use Rattle.machine.proofs.TreeLemmas.{lt_cases}
 use Rattle.counts.proofs.CountLemmas.{count_of_key-none, local-event, local-push, sum_from, sum_from-same, sum_from-le, sum_from-zero, part_under, total-is}
 use Rattle.legal.proofs.Did.{setting-is}

@@ -4,12 +4,12 @@
 ghost use Rattle.std.specs.Prelude.{◌≡◌, ℕ, ◌<◌, ◌≤◌, false, IfOk, OnOk, OnErr, map, option_map};
 ghost use Rattle.book.specs.Passes.{find_of, keeping};
 ghost use Rattle.turns.specs.Turns.{shell_paths, paths_of, judged, task_judged, shell_judged, daemon_judged, with_group, with_file, reads_file, reclaims, writes_file};
-ghost use Rattle.turns.specs.Finds.{looking};
+ghost use Rattle.judging.specs.Finds.{looking};
 ghost use Rattle.turns.specs.Tickets.{holds, OwnStage};
 ghost use Rattle.machine.specs.Tree.{find_group};
 ghost use Rattle.machine.specs.Control.{file_named};
 
-use crate::turn::{Access, Stage};
+use turns::turn::{Access, Stage};
 use book::{Book, Pass};
 use control_files::{file_named, has_file, parse_amount, parse_flag};
 use machine::amount::Amount;
