@@ -86,7 +86,7 @@ few_of b is limit worker =
     let within = is.within in
     omega (arith, counted, few, all, within, limit)
 
--- all kills together are at most as many as tasks began, and each entry counts at most two events beside, so no key is counted more often than 64 bits hold
+-- all kills together are at most as many as tasks began, and each entry counts at most three events beside, so no key is counted more often than 64 bits hold
 pub few-counted : (b : Inside) → IsBook b → b.state.tables.opening.trace_limit ≤ 1048576 → AreFew b.state.tables
 few-counted b is limit k =
     let most = few-total b.state.tables.opening (history_of b) b.state.tables is.told.legal b.state.tables.tree 0 k in

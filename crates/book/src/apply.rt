@@ -216,7 +216,7 @@ fn kill_all(state: &mut State, limit: GroupId, victim: TaskId, group: GroupId) -
 {
     state.is_joined();
     state.tree().groups_form_a_tree();
-    let tasks = state.count_group_kill(limit, group);
+    let tasks = state.count_group_kill(limit, victim, group);
     state.end_tasks(group, Life::Killed);
     Reply::KilledAll {
         victim,

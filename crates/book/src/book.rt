@@ -23,9 +23,9 @@ ghost use Rattle.book.specs.MakesStep.{IsAsked, RepliesTo, stamped_reply, noted,
 use crate::apply::apply;
 use crate::decide::decide;
 use crate::decision::Decision;
-use book_events::{Event, Reply};
 use crate::kept::{Asked, Kept};
 use crate::pass::Pass;
+use book_events::{Event, Reply};
 use files::blocks_for;
 use machine::bytes::PageBytes;
 use machine::config::{Config, FileList, Placement, Watermarks};

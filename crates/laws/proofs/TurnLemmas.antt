@@ -418,13 +418,13 @@ only_hits_mark config before lines answers end runs who outcome after turn p m =
           elim (only_hit end _ after asks (opening_of config) (legal_end config before lines answers end runs) p m) [
             | inl was ↦ inl was
             | inr hit ↦ inr (
-                hit.t,
-                hit.place,
-                hit.hits,
-                hit.shown,
-                ap (λ (b : Bool). b && marks_next config.placement end.past (shown_at end.past.state hit.t.0 hit.place)) (sym (same_placement config before lines answers end runs who) ∙ hit.counts)
-                ∙ ap (marks_next config.placement end.past) hit.shown ∙ sym (same_next config before lines answers end runs (Some p)) ∙ hit.last,
-              )
+              hit.t,
+              hit.place,
+              hit.hits,
+              hit.shown,
+              ap (λ (b : Bool). b && marks_next config.placement end.past (shown_at end.past.state hit.t.0 hit.place)) (sym (same_placement config before lines answers end runs who) ∙ hit.counts)
+                  ∙ ap (marks_next config.placement end.past) hit.shown ∙ sym (same_next config before lines answers end runs (Some p)) ∙ hit.last,
+            )
           ]
     ]
 
@@ -443,8 +443,7 @@ five_reads_mark config before lines answers end runs linux who outcome after tur
           let p = found.page.hit.p in
           let shown : file_page end.past.state.pages file q ≡ Some p = found.page.hit.shown in
           let next : marks_next end.past.state.opening.placement end.past (Some p) ≡ nat_le 5 (hits_at end.past.order.held.hits p + 1) =
-          same_next config before lines answers end runs (Some p) ∙ ap (λ (pl : Placement). marks_next pl end.past (Some p)) linux ∙ file_next end.past file q p shown in
-          (
+          same_next config before lines answers end runs (Some p) ∙ ap (λ (pl : Placement). marks_next pl end.past (Some p)) linux ∙ file_next end.past file q p shown in (
             p,
             shown,
             λ unmarked. by_count (hits_at end.past.order.held.hits p) (is_marked after.past.order.held.marks p) (hits_at after.past.order.held.hits p)

@@ -4,7 +4,7 @@ use Rattle.std.specs.List.{AllByRecursion}
 use Rattle.machine.specs.declared.amount.Amount.TheVariants.{Pages}
 use Rattle.machine.specs.declared.config.Config.{Config}
 use Rattle.machine.specs.declared.config.Placement.{Placement}
-use Rattle.machine.specs.declared.config.Placement.TheVariants.{Linux}
+use Rattle.machine.specs.declared.config.Placement.TheVariants.{Own, Linux}
 use Rattle.machine.specs.declared.entry.Entry.{Entry}
 use Rattle.machine.specs.declared.id.FrameId.{FrameId}
 use Rattle.machine.specs.declared.id.GroupId.{GroupId}
@@ -39,7 +39,7 @@ use Rattle.machine.specs.Amounts.{exceeds}
 use Rattle.machine.specs.Counts.{no_limits, limits_at, guard_of, count_of_key, with_event, local, total, Counted, how_often}
 use Rattle.machine.specs.Tree.{Node, node_at, is_child, is_live, children, under}
 use Rattle.machine.specs.Pages.{OfFile, Residence, Away, Page, page_at, is_anon, is_held, frame_at, block_at, ticket_at, is_in_transfer, is_charged, is_number, in_transfer, used_frames, used_swap, file_page, IsFiled}
-use Rattle.machine.specs.Tasks.{task_at, task_of, lives, group_of_task, mapped_at, size_of}
+use Rattle.machine.specs.Tasks.{Tasks, task_at, task_of, lives, group_of_task, mapped_at, size_of}
 use Rattle.machine.specs.State.{Opening, State, page_numbers, usage, effective_in, effective_min, effective_low, is_swap_free, opening_of, blocks_of}
 use Rattle.machine.specs.Reclaim.{is_takeable, is_idle, target_of, goal_in}
 use Rattle.machine.specs.Generations.{row_of, listed, gens_at, AreDistinct}
@@ -231,15 +231,21 @@ pub record CountsKill (before : State) (limit : ℕ) (killed_in : ℕ → ℕ) (
   pub high : (g : ℕ) → local after.counted g key.High ≡ local before.counted g key.High
   pub max : (g : ℕ) → local after.counted g key.Max ≡ local before.counted g key.Max
 
--- in whatever state a legal history ends, a kill of a task counts that one task, at its group, and a kill of a group each of its tasks, at the task's own. (Excludes a victim that is counted twice, tasks that are
--- counted as one, or at the group that is killed, and a group's kill that is counted at the limit, or for each task.)
+-- by Linux's placement the victim of a group's kill is counted twice at its group
+abbrev pub counted_again : Placement → Tasks → ℕ → ℕ → ℕ
+counted_again Own tasks victim g = 0
+counted_again Linux tasks victim g = if group_of_task tasks victim == g then 1 else 0
+
+-- in whatever state a legal history ends, a kill of a task counts that one task, at its group, and a kill of a group each of its tasks, at the task's own: once, but the victim twice by Linux's placement.
+-- (Excludes a victim that is counted twice by our own placement, tasks that are counted as one, or at the group that is killed, and a group's kill that is counted at the limit, or for each task.)
 abbrev pub KillsAreCounted : Type 0
 KillsAreCounted =
     (opening : Opening) (history : List Entry) (before after : State) (why : Cause) → Legal opening history before
     → ((t : ℕ) → Step before (event.Relieve why) (reply.KilledTask (record { 0 = t })) after
     → CountsKill before (target_of why) (λ g. if group_of_task before.tasks t == g then 1 else 0) None after)
     × ((victim h tasks : ℕ) → Step before (event.Relieve why) (reply.KilledAll (record { 0 = victim }) (record { 0 = h }) tasks) after
-    → CountsKill before (target_of why) (λ g. count_there (λ task. is_live_under before.tree h task && (task.group.0 == g)) before.tasks) (Some h) after)
+    → CountsKill before (target_of why)
+    (λ g. count_there (λ task. is_live_under before.tree h task && (task.group.0 == g)) before.tasks + counted_again before.opening.placement before.tasks victim g) (Some h) after)
 
 -- one page stood in its frame and is taken from there, and no other changes. Its group is at or under the target, and is the target itself, or used more than its effective min
 -- for a reclaim of the target

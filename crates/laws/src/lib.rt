@@ -116,7 +116,7 @@ pub fn single_kills_are_unflagged()
 {}
 
 /// In such a state a kill counts `oom` once at the limit group, and `oom_kill` once for each task that dies,
-/// at the task's group. It counts `oom_group_kill` once at the group that is killed as one, if one is. No
+/// at the task's group. By Linux's placement a group's kill counts the victim twice. A kill counts `oom_group_kill` once at the group that is killed as one, if one is. No
 /// other number changes.
 pub fn kills_are_counted()
     ensures { KillsAreCounted }

@@ -90,7 +90,13 @@ impl State {
         ensures { MergesFrames self.old self.new word bits }
     {
         let placement = self.config.placement;
-        merge_marks(&self.parts.pages, &mut self.parts.held, placement, word, bits);
+        merge_marks(
+            &self.parts.pages,
+            &mut self.parts.held,
+            placement,
+            word,
+            bits,
+        );
     }
 
     /// Begins to read in what the source names, charged to the group, which has room for it. The source is memory of
