@@ -107,14 +107,9 @@ pub counts-group : (old first second mid new : StateOf) (limit victim h : ℕ) �
 counts-group old first second mid new limit victim h oom again kills group =
     group ∙ ap (λ (s : StateOf). counts_event s h key.OomGroupKill) (kills ∙ ap (λ (s : StateOf). counts_events s (counts_of_killed s.tables.tree s.tables.tasks h)) twice)
     ∙ ap (λ (cs : List EventCounts). record old { tables = record (old.tables) { counted = cs } })
-    (sym (with_events-append (with_event old.tables.counted limit key.Oom) one (all ++ last) ∙ with_events-append (with_events (with_event old.tables.counted limit key.Oom) one) all last))
+    (sym (with_events-append (with_event old.tables.counted limit key.Oom) (counts_of_victim old.tables.opening.placement old.tables.tasks victim) ((counts_of_killed old.tables.tree old.tables.tasks h) ++ (count_of h key.OomGroupKill ∷ [])) ∙ with_events-append (with_events (with_event old.tables.counted limit key.Oom) (counts_of_victim old.tables.opening.placement old.tables.tasks victim)) (counts_of_killed old.tables.tree old.tables.tasks h) (count_of h key.OomGroupKill ∷ [])))
   where
-    one all last : List Counted
-    one = counts_of_victim old.tables.opening.placement old.tables.tasks victim
-    all = counts_of_killed old.tables.tree old.tables.tasks h
-    last = count_of h key.OomGroupKill ∷ []
-
-    twice : second ≡ counts_events (counts_event old limit key.Oom) one
+    twice : second ≡ counts_events (counts_event old limit key.Oom) (counts_of_victim old.tables.opening.placement old.tables.tasks victim)
     twice = again ∙ ap (λ (s : StateOf). counts_events s (counts_of_victim s.tables.opening.placement s.tables.tasks victim)) oom
 
 -- ---- ends
