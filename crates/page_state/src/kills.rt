@@ -47,10 +47,10 @@ impl State {
         match self.config.placement {
             Placement::Own => {}
             Placement::Linux => {
-                let Some(known) = self.spaces.task(victim) else {
+                let Some(task) = self.spaces.task(victim) else {
                     unreachable!()
                 };
-                self.count(known.group, Key::OomKill);
+                self.count(task.group, Key::OomKill);
             }
         }
     }
