@@ -9,7 +9,6 @@ ghost use Rattle.turns.specs.Tickets.{holds, OwnStage};
 ghost use Rattle.machine.specs.Tree.{find_group};
 ghost use Rattle.machine.specs.Control.{file_named};
 
-use turns::turn::{Access, Stage};
 use book::{Book, Pass};
 use control_files::{file_named, has_file, parse_amount, parse_flag};
 use machine::amount::Amount;
@@ -21,6 +20,7 @@ use machine::record::Guard;
 use machine::refusal::Refusal;
 use machine::text::Text;
 use std::alloc::{AllocError, Global};
+use turns::turn::{Access, Stage};
 
 /// The result of a command's first turn. All its paths are looked up, in order, before anything of it is judged, and
 /// the pass keeps them. A command that continues has no ticket in hand yet. It fails only if memory is refused for what

@@ -22,12 +22,12 @@ use crate::history::{Asked, Front, Log, Paths};
 use crate::opened::Opened;
 use crate::report::EndedPass;
 use book::{Book, Event, Kept, Reply};
+use judging::judge::judge;
 use machine::command::{Actor, Command};
 use machine::refusal::Refusal;
 use std::alloc::{AllocError, Global};
 use std::marker::{Model, PhantomData};
 use turns::automaton::spend;
-use judging::judge::judge;
 use turns::turn::Stage;
 
 /// A worker's permission to ask the book that workers share. It keeps what the worker asked and what the book

@@ -18,12 +18,12 @@ use crate::opened::Opened;
 use crate::pass::Pass;
 use block_store::SharedDevice;
 use book::{Event, InTicket, OutTicket, Reply};
+use judging::judge::judge_task;
 use machine::command::{Actor, Answer, Command, Reply as Told, Word};
 use machine::refusal::Refusal;
 use std::alloc::AllocError;
 use std::sync::Wait;
 use turns::automaton::{ask, holds, let_go, resumes_at, told};
-use judging::judge::judge_task;
 use turns::turn::{Access, Pending, Resume, Stage, Transition, Want};
 
 fn out_of_memory(actor: Actor) -> Told
