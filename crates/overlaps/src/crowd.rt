@@ -41,11 +41,6 @@ impl Ended {
     }
 }
 
-/// Whether the answers are those of the trace, and the audit finds nothing wrong.
-pub fn is_fine(ended: &Ended) -> bool {
-    ended.replies_match && ended.audit == Ok(())
-}
-
 /// What these lines ask for, without header lines.
 pub fn asked(alloc: Global, lines: &str) -> Result<Vec<(Actor, Command)>, Fail> {
     match read(alloc, lines.as_bytes(), Mode::Run) {

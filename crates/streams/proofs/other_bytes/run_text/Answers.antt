@@ -5,7 +5,7 @@ use Rattle.machine.specs.declared.command.Actor.{Actor}
 use Rattle.machine.specs.declared.command.Command.{Command}
 use Rattle.scripts.specs.Script.{items_of}
 use Rattle.scripts.specs.Work.{numbers_of, worked}
-use Rattle.acceptance.proofs.other_bytes.run_text.Goals as goal
+use Rattle.streams.proofs.other_bytes.run_text.Goals as goal
 
 pub run_new-requires-clause-rows : goal.run_new-requires-clause-rows
 run_new-requires-clause-rows g c = λ lives within.

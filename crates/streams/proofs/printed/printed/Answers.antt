@@ -3,7 +3,7 @@ use Rattle.std.proofs.Common.{◌∙◌, ◌++◌, ℕ, List, [], ap, append-nil
 use Rattle.std.proofs.lemmas.List.{map-id}
 use Rattle.printer.specs.Asked.{plain}
 use Rattle.printer.specs.Prints.{texts, shown_by}
-use Rattle.acceptance.proofs.printed.printed.Goals as goal
+use Rattle.streams.proofs.printed.printed.Goals as goal
 
 pub returns-in-0-clause-answers : goal.returns-in-0-clause-answers
 returns-in-0-clause-answers c =

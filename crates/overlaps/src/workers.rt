@@ -1,6 +1,6 @@
 //! What workers are answered if their transfers overlap, fail or bring other bytes.
 
-use crate::crowd::{crowd, is_fine};
+use crate::crowd::{Ended, crowd};
 use crate::gate::Manner;
 use std::alloc::Global;
 use std::test::Fail;
@@ -8,6 +8,10 @@ use trace::First;
 
 const SWAPPED: &str =
     "swap 2\ngroup /a\ntask 1 /a\ntask 2 /a\n1 write 0 0 5\n2 write 0 0 6\nset / memory.reclaim 8192\n";
+
+fn is_fine(ended: &Ended) -> bool {
+    ended.replies_match && ended.audit == Ok(())
+}
 
 #[test]
 fn reads_overlap(rt: HostRuntime) -> Result<(), Fail> {

@@ -1,16 +1,16 @@
-//! A race: a script whose outcomes are listed in files. `NAME.memcg` is the script, `NAME.outcomes` has what is printed of
-//! the orders with device calls first, and `NAME.every` what is printed of every order.
-//!
-//! The outcomes are compared with those of the files, and each outcome that is shown as a script has to answer what that
-//! script expects. A sample of each race is drawn too, twice.
+//! Explores the races that its words name: the orders with device calls first, and every order. For each it compares the
+//! outcomes with those of its files, and checks that each outcome that is shown as a script answers what that script
+//! expects. It also draws a sample of each race, twice.
+#![tactic(auto)]
 
 use explore::{Asked, Choice, Sample, Verdict, explore_script};
 use scripts::lines::as_text;
 use std::alloc::Global;
 use std::fs::File;
-use std::io;
 use std::io::{ErrorKind, Read, Write};
-use std::rt::Files;
+use std::process::ExitCode;
+use std::rt::{Env, Files};
+use std::{env, io};
 use subcommands::{Options, read_and_check};
 
 /// All bytes of a file.
@@ -172,7 +172,7 @@ fn check_waiting<W: Write>(
 
 /// Explores a race. A line has its number of outcomes with device calls first, that of every order, and that of the orders
 /// in which commands wait.
-pub fn explore_race<R: Files + AllocGlobal, W: Write>(
+fn explore_race<R: Files + AllocGlobal, W: Write>(
     rt: &R,
     name: &str,
     out: &mut W,
@@ -193,4 +193,22 @@ pub fn explore_race<R: Files + AllocGlobal, W: Write>(
     )?;
     check_sample(alloc, name, &script, outcomes, out)?;
     check_shown(alloc, name, &script, outcomes, out)
+}
+
+/// Explores all races.
+fn explore_all<R: Env + Files + AllocGlobal, W: Write>(rt: &R, out: &mut W) -> io::Result<()> {
+    let words: Vec<String> = env::args(rt)?.collect(rt.alloc())?;
+    for name in words.iter().skip(1) {
+        explore_race(rt, name.as_str(), out)?;
+    }
+    Ok(())
+}
+
+fn main(rt: HostRuntime) -> ExitCode {
+    let Err(fault) = explore_all(&rt, &mut rt.stdout()) else {
+        return ExitCode::SUCCESS;
+    };
+    // The status reports the failure even if its line can't be written.
+    let _ = writeln!(rt.stderr(), "{fault}");
+    ExitCode::FAILURE
 }

@@ -1,6 +1,6 @@
 //! Which pages stay if workers set marks without a lock, and merge them before a page is evicted.
 
-use crate::crowd::{Ended, crowd, is_fine};
+use crate::crowd::{Ended, crowd};
 use crate::gate::Manner;
 use std::alloc::Global;
 use std::fmt::Write;
@@ -20,6 +20,10 @@ fn counts(max: u32, alloc: Global) -> Result<String, Fail> {
         "1 10\nlow 0\nhigh 0\nmax {max}\noom 0\noom_kill 0\noom_group_kill 0\n"
     )?;
     Ok(text)
+}
+
+fn is_fine(ended: &Ended) -> bool {
+    ended.replies_match && ended.audit == Ok(())
 }
 
 /// Makes the three pages, and then a fourth, for which one is evicted. The lines before, or the worker, may use

@@ -1,6 +1,6 @@
 //! What command lines ask for, and what is said of faulty ones.
 
-use command_line::{Asked, ChartForm, Purpose, Refused, Subcommand, read_words, text_about};
+use crate::{Asked, ChartForm, Purpose, Refused, Subcommand, read_words, text_about};
 use machine::config::Placement;
 use printer::{Amounts, Options};
 use scenario_reports::asked::Prints;
