@@ -37,7 +37,7 @@ SPECIFICATIONS = """
     machine/specs/History.antt machine/specs/FirstBytes.antt machine/specs/Audit.antt machine/specs/Transfers.antt machine/specs/Call.antt
     machine/specs/Legal.antt machine/specs/Events.antt machine/specs/Control.antt machine/specs/Printed.antt
     block_store/specs/Device.antt pages/specs/Tickets.antt
-    book_events/specs/Events.antt book_events/specs/Spots.antt book_events/specs/Replies.antt book/specs/Passes.antt
+    book/specs/Events.antt book/specs/Spots.antt book/specs/Replies.antt book/specs/Passes.antt
     turns/specs/Turns.antt driver/specs/Schedule.antt driver/specs/Sinks.antt driver/specs/Traced.antt
     turns/specs/Tickets.antt driver/specs/Hands.antt marks/specs/Logs.antt
     scripts/specs/Words.antt scripts/specs/Forms.antt scripts/specs/Meaning.antt scripts/specs/Header.antt scripts/specs/Context.antt

@@ -1,4 +1,3 @@
-pub mod Blocks
 pub mod Device
 pub mod Memory
 pub mod Slots

@@ -1,5 +1,8 @@
 pub mod Passes
 pub mod Keeping
+pub mod Spots
+pub mod Events
+pub mod Replies
 pub mod Effects
 pub mod MakesStep
 pub mod Decisions

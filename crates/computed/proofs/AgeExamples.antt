@@ -38,7 +38,7 @@ file_at seq = record { max_seq = 3; anon = record { min_seq = 0; pages = [] }; f
 abbrev order_of : ℕ → List Bool → Option ℕ → Order
 order_of seq marks last =
     record {
-      held = record { groups = lists_of (of_memory 3 0 (listed_at 0 0 ∷ [])) (file_at seq); marks = marks; hits = [] };
+      held = record { groups = lists_of (of_memory 3 0 (listed_at 0 0 ∷ [])) (file_at seq); marks = marks };
       cursors = None ∷ last ∷ None ∷ None ∷ None ∷ None ∷ [];
     }
 

@@ -143,7 +143,7 @@ none_served = None ∷ None ∷ None ∷ None ∷ None ∷ None ∷ []
 
 -- of groups 2 and 3 these lists, no page marked, and no group served
 abbrev pub ordered : Gens → Gens → Order
-ordered two three = record { held = record { groups = lists_of two three; marks = no_marks; hits = [] }; cursors = none_served }
+ordered two three = record { held = record { groups = lists_of two three; marks = no_marks }; cursors = none_served }
 
 -- page 1 came into its frame before page 0, and no group was served
 abbrev pub busy_order : Order
@@ -167,6 +167,6 @@ stuck = record {
 abbrev pub stuck_order : Order
 stuck_order =
     record {
-      held = record { groups = lists_of (young (listed_at 0 3 ∷ [])) (young (listed_at 1 3 ∷ listed_at 2 3 ∷ [])); marks = false ∷ false ∷ false ∷ false ∷ false ∷ false ∷ []; hits = [] };
+      held = record { groups = lists_of (young (listed_at 0 3 ∷ [])) (young (listed_at 1 3 ∷ listed_at 2 3 ∷ [])); marks = false ∷ false ∷ false ∷ false ∷ false ∷ false ∷ [] };
       cursors = none_served;
     }

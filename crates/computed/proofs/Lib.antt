@@ -27,7 +27,6 @@ mod ControlExamples
 mod GenerationExamples
 mod HeldExamples
 mod UsedExamples
-mod FifthExamples
 mod ListedExamples
 mod FileListedExamples
 mod MarkedExamples

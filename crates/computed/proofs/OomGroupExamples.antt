@@ -2,8 +2,6 @@
 use Rattle.std.proofs.Common.{◌≡◌, ℕ, true, false, List, [], ◌∷◌, ◌++◌, Some, None, refl, ap}
 use Rattle.std.specs.Prelude.{codes, replicate}
 use Rattle.std.specs.Fmt.{digits}
-use Rattle.machine.specs.declared.config.Placement.TheVariants.{Own, Linux}
-use Rattle.machine.specs.declared.config.Placement.{Placement}
 use Rattle.machine.specs.declared.amount.Amount.TheVariants.{Max}
 use Rattle.machine.specs.declared.control.ControlFile.TheVariants as file
 use Rattle.machine.specs.declared.event.Cause.TheVariants as cause
@@ -152,34 +150,28 @@ dies-not_exited = refl
 -- ---- what is counted
 
 -- a task of /a/b and one of /a/c die with /a, which is the limit too: each is counted at its own group, and the kill of the group once, at /a
-counts-limit : counts_of_group_kill Own groups (None ∷ Some (task_of 2 Live) ∷ Some (task_of 3 Live) ∷ []) 1 2 1
+counts-limit : counts_of_group_kill groups (None ∷ Some (task_of 2 Live) ∷ Some (task_of 3 Live) ∷ []) 1 1
     ≡ count_of 1 key.Oom ∷ count_of 2 key.OomKill ∷ count_of 3 key.OomKill ∷ count_of 1 key.OomGroupKill ∷ []
 unfolding chain_up chain under_at
 counts-limit = refl
 
 -- where a frame was wanted, `oom` is counted at the root, and all else as before
-counts-frame : counts_of_group_kill Own groups (None ∷ Some (task_of 2 Live) ∷ Some (task_of 3 Live) ∷ []) 0 2 1
+counts-frame : counts_of_group_kill groups (None ∷ Some (task_of 2 Live) ∷ Some (task_of 3 Live) ∷ []) 0 1
     ≡ count_of 0 key.Oom ∷ count_of 2 key.OomKill ∷ count_of 3 key.OomKill ∷ count_of 1 key.OomGroupKill ∷ []
 unfolding chain_up chain under_at
 counts-frame = refl
 
 -- the tasks come by number, whatever their groups
-counts-order : counts_of_group_kill Own groups (None ∷ Some (task_of 3 Live) ∷ Some (task_of 2 Live) ∷ []) 1 2 1
+counts-order : counts_of_group_kill groups (None ∷ Some (task_of 3 Live) ∷ Some (task_of 2 Live) ∷ []) 1 1
     ≡ count_of 1 key.Oom ∷ count_of 3 key.OomKill ∷ count_of 2 key.OomKill ∷ count_of 1 key.OomGroupKill ∷ []
 unfolding chain_up chain under_at
 counts-order = refl
-
--- by Linux's placement the victim is counted once more, before all of them: here task 2, of /a/c
-counts-again : counts_of_group_kill Linux groups (None ∷ Some (task_of 2 Live) ∷ Some (task_of 3 Live) ∷ []) 1 2 1
-    ≡ count_of 1 key.Oom ∷ count_of 3 key.OomKill ∷ count_of 2 key.OomKill ∷ count_of 3 key.OomKill ∷ count_of 1 key.OomGroupKill ∷ []
-unfolding chain_up chain under_at
-counts-again = refl
 
 -- what a kill of /a/b counts where room was wanted under /a: two tasks died, and not those that had ended
 abbrev pub four : List Counted
 four = count_of 1 key.Oom ∷ count_of 4 key.OomKill ∷ count_of 4 key.OomKill ∷ count_of 2 key.OomGroupKill ∷ []
 
-counts-running : counts_of_group_kill Own groups tasks 1 1 2 ≡ four
+counts-running : counts_of_group_kill groups tasks 1 2 ≡ four
 unfolding chain_up chain under_at
 counts-running = refl
 

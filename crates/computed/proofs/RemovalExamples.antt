@@ -32,13 +32,13 @@ use Rattle.machine.specs.Refusals.{refusal}
 use Rattle.machine.specs.Step.{regrouped, shown_of, Step}
 use Rattle.machine.specs.Generations.{Gens, new_gens, taken_over}
 use Rattle.machine.specs.Aging.{is_marked}
-use Rattle.machine.specs.Lists.{Order, served, is_fresh, Orders, SecondYoungest}
+use Rattle.machine.specs.Lists.{Order, served, is_fresh, Orders}
 use Rattle.machine.specs.Call.{Past, is_full_for, Called, grows}
 use Rattle.machine.proofs.Values.{some_inj, never_some, unlike}
 use Rattle.machine.proofs.RemovedLemmas.{usage-removed}
 use Rattle.computed.proofs.ExampleStates.{group, task, ticket, shows, below, tree, memory, of_file, max_of, single, opening, busy, listed_at, young, searched, none_served}
 use Rattle.computed.proofs.HeldExamples.{page_standing, unlike_number, unlike_mark, unlike_cursor, set_is_not_clear}
-use Rattle.computed.proofs.CallExamples.{caller, past, after, not_new, other_number, stay_unmarked, stay_unhit}
+use Rattle.computed.proofs.CallExamples.{caller, past, after, not_new, other_number, stay_unmarked}
 
 abbrev rmdir : ℕ → Event
 rmdir g = event.Rmdir (group g)
@@ -411,7 +411,7 @@ abbrev marks : List Bool
 marks = false ∷ true ∷ false ∷ false ∷ false ∷ false ∷ false ∷ true ∷ false ∷ false ∷ false ∷ false ∷ false ∷ []
 
 abbrev order_of : Gens → Gens → List (Option ℕ) → Order
-order_of one three cursors = record { held = record { groups = new_gens ∷ one ∷ young (listed_at 0 3 ∷ []) ∷ three ∷ new_gens ∷ new_gens ∷ []; marks = marks; hits = [] }; cursors = cursors }
+order_of one three cursors = record { held = record { groups = new_gens ∷ one ∷ young (listed_at 0 3 ∷ []) ∷ three ∷ new_gens ∷ new_gens ∷ []; marks = marks }; cursors = cursors }
 
 -- /p has a page in each generation, and /p/b page 9 in its oldest and page 1 in its youngest. For the root and for /p/b itself as targets /p/b was served last
 abbrev one_before : Gens
@@ -560,7 +560,7 @@ abbrev arrived_order : Order
 arrived_order = order_of (searched 5 2 (listed_at 5 2 ∷ listed_at 6 3 ∷ listed_at 7 4 ∷ listed_at 9 4 ∷ listed_at 1 4 ∷ listed_at 2 4 ∷ listed_at 8 5 ∷ [])) (searched 4 1 []) cursors_after
 
 arrives : Orders removed removed_order (event.Arrived (ticket 7) []) reply.Ok arrived arrived_order
-arrives = (record { fresh = Some 2; which = which; groups = refl; size = refl; marks = stay; counts = refl; hits = stay_unhit SecondYoungest refl removed.pages arrived.pages }, refl)
+arrives = (record { fresh = Some 2; which = which; groups = refl; size = refl; marks = stay }, refl)
   where
     which : (p : ℕ) → is_number (Some 2) p ≡ is_fresh removed_pages arrived.pages p
     which zero = refl

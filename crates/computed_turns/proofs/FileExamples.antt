@@ -30,12 +30,12 @@ use Rattle.machine.specs.Tasks.{task_of}
 use Rattle.machine.specs.State.{State}
 use Rattle.machine.specs.Generations.{Gens, Listed, new_gens}
 use Rattle.machine.specs.Aging.{is_marked}
-use Rattle.machine.specs.Lists.{HeldLists, Youngest, SecondYoungest, GoesOn, is_fresh, is_in_bits, is_marking, MergesMarks, PicksOf}
+use Rattle.machine.specs.Lists.{HeldLists, Youngest, SecondYoungest, GoesOn, is_fresh, is_in_bits, MergesMarks, PicksOf}
 use Rattle.machine.specs.Call.{Past, entries_of}
 use Rattle.block_store.specs.Device.{Disk}
 use Rattle.pages.specs.Tickets.{TicketOf}
-use Rattle.book_events.specs.declared.event.Event.TheVariants as asks
-use Rattle.book_events.specs.declared.event.Reply.TheVariants as says
+use Rattle.book.specs.declared.event.Event.TheVariants as asks
+use Rattle.book.specs.declared.event.Reply.TheVariants as says
 use Rattle.turns.specs.declared.turn.Access.{Access}
 use Rattle.driver.specs.declared.seat.Activity.{Activity}
 use Rattle.driver.specs.declared.seat.Activity.TheVariants.{Rests, Begun, Does}
@@ -47,7 +47,7 @@ use Rattle.turns.specs.declared.turn.Transition.TheVariants as transition
 use Rattle.turns.specs.declared.turn.Want.TheVariants as want
 use Rattle.turns.specs.Turns.{wants, Told, resumes_at, arrived, judged}
 use Rattle.driver.specs.Schedule.{World, Turn, outcome_of, left_of}
-use Rattle.computed_turns.proofs.TurnExamples.{lists, order, caller, disk as no_disk, after, stay_unhit, own_unhit}
+use Rattle.computed_turns.proofs.TurnExamples.{lists, order, caller, disk as no_disk, after}
 use Rattle.computed_turns.proofs.TaskExamples.{r, tree}
 
 -- ---- a read of a page that is not in memory
@@ -100,7 +100,7 @@ module _ (bytes : List ℕ) where
   with_file = record { max_seq = 3; anon = record { min_seq = 0; pages = [] }; file = record { min_seq = 0; pages = record { page = 0; seq = 2 } ∷ [] } }
 
   abbrev filed : HeldLists
-  filed = record { groups = new_gens ∷ with_file ∷ []; marks = false ∷ false ∷ []; hits = [] }
+  filed = record { groups = new_gens ∷ with_file ∷ []; marks = false ∷ false ∷ [] }
 
   abbrev once_arrived : Past
   once_arrived = record {
@@ -115,7 +115,7 @@ module _ (bytes : List ℕ) where
   once_read byte = record {
     state = with_pages held;
     history = entries_of caller once_arrived.history (event.Access access.task access.place Read) (reply.Done byte (Some (record { 0 = 0 }))) ++ once_arrived.history;
-    order = record { held = record { groups = new_gens ∷ with_file ∷ []; marks = true ∷ false ∷ []; hits = [] }; cursors = None ∷ None ∷ [] };
+    order = record { held = record { groups = new_gens ∷ with_file ∷ []; marks = true ∷ false ∷ [] }; cursors = None ∷ None ∷ [] };
     passes = 1;
   }
 
@@ -123,7 +123,7 @@ module _ (bytes : List ℕ) where
   world past what = record { past = past; caller = caller; disk = disk; seats = record { actor = actor.Task 1; activity = what } ∷ []; turns = 1000 }
 
   begins_to_come : GoesOn Youngest [] lists coming lists
-  begins_to_come = record { fresh = None; which = which; groups = refl; size = refl; marks = marks; counts = refl; hits = stay_unhit Youngest refl [] coming }
+  begins_to_come = record { fresh = None; which = which; groups = refl; size = refl; marks = marks }
     where
       which : (p : ℕ) → is_number None p ≡ is_fresh [] coming p
       which zero = refl
@@ -183,7 +183,7 @@ module _ (bytes : List ℕ) where
   }
 
   arrives_listed : GoesOn SecondYoungest coming lists held filed
-  arrives_listed = record { fresh = Some 0; which = which; groups = refl; size = refl; marks = marks; counts = refl; hits = stay_unhit SecondYoungest refl coming held }
+  arrives_listed = record { fresh = Some 0; which = which; groups = refl; size = refl; marks = marks }
     where
       which : (p : ℕ) → is_number (Some 0) p ≡ is_fresh coming held p
       which zero = refl
@@ -227,7 +227,7 @@ module _ (bytes : List ℕ) where
 
   -- the hit leaves the lists as they are
   is_hit : GoesOn Youngest held filed held filed
-  is_hit = record { fresh = None; which = which; groups = refl; size = refl; marks = marks; counts = refl; hits = stay_unhit Youngest refl held held }
+  is_hit = record { fresh = None; which = which; groups = refl; size = refl; marks = marks }
     where
       which : (p : ℕ) → is_number None p ≡ is_fresh held held p
       which zero = refl
@@ -247,10 +247,10 @@ module _ (bytes : List ℕ) where
       ]
 
   -- its merge marks the page that is held in frame 0
-  is_marked_now : MergesMarks Own held 0 1 filed (record { groups = filed.groups; marks = true ∷ false ∷ []; hits = [] })
-  is_marked_now = record { groups = refl; size = refl; marks = marks; counts = refl; hits = own_unhit (is_in_bits 0 1) filed.marks held }
+  is_marked_now : MergesMarks held 0 1 filed (record { groups = filed.groups; marks = true ∷ false ∷ [] })
+  is_marked_now = record { groups = refl; size = refl; marks = marks }
     where
-      marks : (p : ℕ) → is_marked (true ∷ false ∷ []) p ≡ (is_marked filed.marks p || is_marking Own (is_in_bits 0 1) 0 (page_at held p))
+      marks : (p : ℕ) → is_marked (true ∷ false ∷ []) p ≡ (is_marked filed.marks p || there_and (is_in_bits 0 1) (page_at held p))
       marks zero = refl
       marks (suc zero) = refl
       marks (suc (suc p)) = refl
@@ -301,7 +301,7 @@ abbrev old_file : List Listed → Gens
 old_file pages = record { max_seq = 5; anon = record { min_seq = 4; pages = [] }; file = record { min_seq = 3; pages = pages } }
 
 abbrev old_lists : List Listed → HeldLists
-old_lists pages = record { groups = new_gens ∷ old_file pages ∷ []; marks = false ∷ false ∷ []; hits = [] }
+old_lists pages = record { groups = new_gens ∷ old_file pages ∷ []; marks = false ∷ false ∷ [] }
 
 abbrev first_listed : Listed
 first_listed = record { page = 0; seq = 3 }
@@ -330,7 +330,7 @@ picks = record {
 }
 
 leaves_list : GoesOn Youngest held (old_lists (first_listed ∷ [])) (None ∷ []) (old_lists [])
-leaves_list = record { fresh = None; which = which; groups = refl; size = refl; marks = marks; counts = refl; hits = stay_unhit Youngest refl held (None ∷ []) }
+leaves_list = record { fresh = None; which = which; groups = refl; size = refl; marks = marks }
   where
     which : (p : ℕ) → is_number None p ≡ is_fresh held (None ∷ []) p
     which zero = refl

@@ -21,8 +21,8 @@ use Rattle.machine.specs.Refusals.{refusal}
 use Rattle.machine.specs.Step.{regrouped}
 use Rattle.machine.specs.Generations.{Gens, new_gens}
 use Rattle.machine.specs.Call.{Past, entries_of}
-use Rattle.book_events.specs.declared.event.Event.TheVariants as asks
-use Rattle.book_events.specs.declared.event.Reply.TheVariants as says
+use Rattle.book.specs.declared.event.Event.TheVariants as asks
+use Rattle.book.specs.declared.event.Reply.TheVariants as says
 use Rattle.turns.specs.declared.turn.Pending.TheVariants as pending
 use Rattle.turns.specs.declared.turn.Stage.TheVariants as stage
 use Rattle.driver.specs.declared.seat.Outcome.TheVariants.{Ends}
@@ -74,14 +74,14 @@ lists_of seq = record { max_seq = 3; anon = record { min_seq = 0; pages = record
 
 -- the page in the frame is marked and in the youngest generation of /r, the group that was served last for the root and for itself
 abbrev at_first : Past
-at_first = record { state = left; history = []; order = record { held = record { groups = new_gens ∷ lists_of 3 ∷ []; marks = true ∷ false ∷ []; hits = [] }; cursors = Some 1 ∷ Some 1 ∷ [] }; passes = 1 }
+at_first = record { state = left; history = []; order = record { held = record { groups = new_gens ∷ lists_of 3 ∷ []; marks = true ∷ false ∷ [] }; cursors = Some 1 ∷ Some 1 ∷ [] }; passes = 1 }
 
 -- it is in the root's second youngest generation then, and marked still; the lists of /r are empty, and no group was served last for it
 abbrev once_removed : Past
 once_removed = record {
   state = removed;
   history = entries_of caller [] (event.Rmdir r) reply.Ok;
-  order = record { held = record { groups = lists_of 2 ∷ new_gens ∷ []; marks = true ∷ false ∷ []; hits = [] }; cursors = Some 1 ∷ None ∷ [] };
+  order = record { held = record { groups = lists_of 2 ∷ new_gens ∷ []; marks = true ∷ false ∷ [] }; cursors = Some 1 ∷ None ∷ [] };
   passes = 1;
 }
 

@@ -24,7 +24,7 @@ use Rattle.machine.specs.Step.{still}
 use Rattle.machine.specs.Aging.{is_marked}
 use Rattle.machine.specs.Lists.{Youngest, GoesOn, is_fresh}
 use Rattle.machine.specs.Call.{Past}
-use Rattle.book_events.specs.declared.event.Reply.TheVariants as says
+use Rattle.book.specs.declared.event.Reply.TheVariants as says
 use Rattle.turns.specs.declared.turn.Stage.TheVariants as stage
 use Rattle.driver.specs.declared.seat.Outcome.TheVariants.{Ends}
 use Rattle.turns.specs.declared.turn.Transition.TheVariants as transition
@@ -32,7 +32,7 @@ use Rattle.driver.specs.declared.seat.Activity.{Activity}
 use Rattle.driver.specs.declared.seat.Activity.TheVariants.{Rests, Begun}
 use Rattle.turns.specs.Turns.{judged}
 use Rattle.driver.specs.Schedule.{World, Turn}
-use Rattle.computed_turns.proofs.TurnExamples.{lists, order, caller, disk, after, stay_unhit}
+use Rattle.computed_turns.proofs.TurnExamples.{lists, order, caller, disk, after}
 
 abbrev task : ℕ → TaskId
 task n = record { 0 = n }
@@ -110,7 +110,7 @@ none_marked (suc zero) = refl
 none_marked (suc (suc p)) = refl
 
 unchanged : GoesOn Youngest (Some away ∷ []) lists (Some away ∷ []) lists
-unchanged = record { fresh = None; which = none_fresh; groups = refl; size = refl; marks = none_marked; counts = refl; hits = stay_unhit Youngest refl (Some away ∷ []) (Some away ∷ []) }
+unchanged = record { fresh = None; which = none_fresh; groups = refl; size = refl; marks = none_marked }
 
 -- ---- turns
 

@@ -29,8 +29,8 @@ use Rattle.machine.specs.Call.{Past, Caller}
 use Rattle.block_store.specs.declared.device.Fault.{Fault}
 use Rattle.block_store.specs.Device.{Disk, ReadsBlock, WritesBlock}
 use Rattle.pages.specs.Tickets.{TicketOf}
-use Rattle.book_events.specs.declared.event.Reply.{Reply}
-use Rattle.book_events.specs.declared.event.Reply.TheVariants as reply
+use Rattle.book.specs.declared.event.Reply.{Reply}
+use Rattle.book.specs.declared.event.Reply.TheVariants as reply
 use Rattle.turns.specs.declared.turn.Kill.TheVariants as kill
 use Rattle.turns.specs.declared.turn.Access.{Access}
 use Rattle.turns.specs.declared.turn.Resume.{Resume}

@@ -23,9 +23,9 @@ use Rattle.machine.specs.Tree.{Node, find_group}
 use Rattle.machine.specs.State.{free_frames}
 use Rattle.machine.specs.Call.{Past, leaves_entry}
 use Rattle.machine.specs.Control.{file_named, has_file, amount_of, flag_of}
-use Rattle.book_events.specs.declared.event.Event.{Event}
-use Rattle.book_events.specs.declared.event.Event.TheVariants as event
-use Rattle.book_events.specs.Events.{event_of}
+use Rattle.book.specs.declared.event.Event.{Event}
+use Rattle.book.specs.declared.event.Event.TheVariants as event
+use Rattle.book.specs.Events.{event_of}
 use Rattle.turns.specs.declared.turn.Kill.TheVariants as kill
 use Rattle.turns.specs.declared.turn.Stage.{Stage}
 use Rattle.turns.specs.declared.turn.Stage.TheVariants as stage

@@ -15,10 +15,10 @@ use Rattle.machine.specs.declared.event.Event.TheVariants as event
 use Rattle.machine.specs.declared.reply.Reply.{Reply as Plain_reply}
 use Rattle.machine.specs.declared.reply.Reply.TheVariants as plain
 use Rattle.block_store.specs.Device.{Disk, bytes_on}
-use Rattle.book_events.specs.declared.event.Event.{Event}
-use Rattle.book_events.specs.declared.event.Reply.{Reply}
-use Rattle.book_events.specs.Events.{event_of, reply_of}
-use Rattle.book_events.specs.Replies.{KeepsTicket, HandsOut}
+use Rattle.book.specs.declared.event.Event.{Event}
+use Rattle.book.specs.declared.event.Reply.{Reply}
+use Rattle.book.specs.Events.{event_of, reply_of}
+use Rattle.book.specs.Replies.{KeepsTicket, HandsOut}
 use Rattle.turns.specs.declared.turn.Pending.{Pending}
 use Rattle.turns.specs.declared.turn.Stage.{Stage}
 use Rattle.turns.specs.declared.turn.Want.{Want}

@@ -28,7 +28,6 @@ use crate::sink::{Closed, Cut, Sink};
 use crate::{calls, seats};
 use block_store::BlockDevice;
 use book::{Event, Pass};
-use judging::judge::judge;
 use machine::command::{Actor, Answer, Command, Reply, Step, Word};
 use machine::config::Config;
 use machine::refusal::Refusal;
@@ -36,6 +35,7 @@ use schedules::{Entry, Line, Steps};
 use std::alloc::{AllocError, Global};
 use trace::Trace;
 use turns::automaton::{ask, told};
+use turns::judge::judge;
 use turns::turn::{Pending, Stage, Transition, Want};
 
 /// It must be closed.

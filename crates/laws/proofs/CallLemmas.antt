@@ -7,7 +7,6 @@ use Rattle.std.proofs.lemmas.Bool.Decides.{nat_tests}
 use Rattle.std.proofs.lemmas.List.{length-replicate}
 use Rattle.machine.specs.declared.id.GroupId.{GroupId}
 use Rattle.machine.specs.declared.entry.Entry.{Entry}
-use Rattle.machine.specs.declared.config.Placement.{Placement}
 use Rattle.machine.specs.declared.event.Goal.{Goal}
 use Rattle.machine.specs.declared.event.Goal.TheVariants.{Amount}
 use Rattle.machine.specs.declared.event.Event.{Event}
@@ -25,17 +24,17 @@ use Rattle.machine.specs.Generations.{Gens, new_gens, of_kind, row_of, gens_at}
 use Rattle.machine.specs.Aging.{is_marked, has_mark}
 use Rattle.machine.specs.Eviction.{old_pages}
 use Rattle.machine.specs.Order.{heeds_age}
-use Rattle.machine.specs.Lists.{HeldLists, Order, hits_at, kind_at, is_last_hit, is_marking, gives_old, Orders, first_order, PicksOf, is_held_of, ListsHeld, AreGenerations, Generation, Youngest, generation_for, GoesOn, is_in_bits, MergesMarks, with_group, TakesNext, AddsLists, RemovesLists, Keeps}
+use Rattle.machine.specs.Lists.{HeldLists, Order, gives_old, Orders, first_order, PicksOf, is_held_of, ListsHeld, AreGenerations, Generation, Youngest, generation_for, GoesOn, is_in_bits, MergesMarks, with_group, TakesNext, AddsLists, RemovesLists, Keeps}
 use Rattle.machine.specs.Refusals.{refusal}
 use Rattle.machine.specs.Call.{Past, Caller, Answers, Refuses, Answered, JudgedBy, Called, knows_pass, is_trace_full}
 use Rattle.machine.specs.Step.{new_node, Removes, Step}
 use Rattle.machine.specs.Legal.{Legal}
 use Rattle.machine.proofs.Values.{some_inj, unlike}
 use Rattle.machine.proofs.TreeLemmas.{eq_cases}
-use Rattle.page_lists.proofs.CursorLemmas.{cursors-push, cursors-set}
+use Rattle.machine.proofs.CursorLemmas.{cursors-push, cursors-set}
 use Rattle.legal.proofs.Did.{is_rmdir, changes_groups}
 use Rattle.legal.proofs.OpeningLemmas.{tree_after, step_opening, step_tree}
-use Rattle.page_lists.proofs.HeldLemmas.{held-go_on, gens_at-more, held-group, generations-group, goes_length, goes-max, goes-min, generations-go_on, first-held, first-generations}
+use Rattle.machine.proofs.HeldLemmas.{held-go_on, gens_at-more, held-group, generations-group, goes_length, goes-max, goes-min, generations-go_on, first-held, first-generations}
 use Rattle.legal.proofs.StepLemmas.{step-places, mkdir-pages, legal-lists}
 use Rattle.legal.proofs.RemovedCounts.{removal, SameNumbers, numbers-handed, length-handed, handed, held-removed, generations-removed}
 use Rattle.legal.proofs.OrdersLemmas.{orders_alike}
@@ -44,7 +43,7 @@ use Rattle.legal.proofs.SoundLemmas.{legal-sound}
 use Rattle.eviction.proofs.SoundLemmas.{picked-length, picked-generations, picked-size, picked-held, picked-of, picked-marked, picked-unmarked}
 use Rattle.machine.specs.Events.{took_for}
 use Rattle.laws.specs.Laws.{TakesUnprotected, ListsGoOn, HeldPagesGoOn, KeepNumbers, OnlyTakesAge, OnlyMergesMark, ChangesMarksAlone, MergesChangeMarksAlone, LeavesInOrder, OrdersAreSettled}
-use Rattle.page_lists.proofs.MergeLemmas.{held-merged, generations-merged}
+use Rattle.machine.proofs.MergeLemmas.{held-merged, generations-merged}
 use Rattle.legal.proofs.TransferLemmas.{legal-room}
 use Rattle.laws.proofs.LawLemmas.{by_test}
 use Rattle.laws.proofs.ReclaimLemmas.{reclaims_spare_the_protected}
@@ -87,7 +86,7 @@ orders_or : {P : Type 0} (old new : State) (order order' : Order) (what : Event)
     → ((goal : Goal) (target : ℕ) → took_for what answer ≡ Some target → changes_groups what ≡ false → TakesNext old order goal target new order' → P)
     → ((path : List ℕ) → what ≡ event.Mkdir path → AddsLists order order' → P)
     → ((g : GroupId) → what ≡ event.Rmdir g → RemovesLists (node_at old.tree g.0).parent g.0 order order' → P)
-    → ((word bits : ℕ) → what ≡ event.MergeMarks word bits → MergesMarks old.opening.placement old.pages word bits order.held order'.held × (order'.cursors ≡ order.cursors) → P)
+    → ((word bits : ℕ) → what ≡ event.MergeMarks word bits → MergesMarks old.pages word bits order.held order'.held × (order'.cursors ≡ order.cursors) → P)
     → (changes_groups what ≡ false → Keeps old order what answer new order' → P)
     → Orders old order what answer new order' → P
 orders_or old new order order' (event.Relieve cause) (reply.Out ticket) takes adds removes merges keeps h = takes (goal_of cause) (target_of cause) refl refl h
@@ -172,12 +171,12 @@ module _ (opening : Opening) (history : List Entry) (old new : State) (order ord
   ordered-keeps same h was =
       goes-ordered (generation_for old.opening.placement what) order.held same h.0 was.listed was.sound was.groups was.marks (ap (λ (xs : List (Option ℕ)). length xs) h.1 ∙ was.cursors)
 
-  ordered-merges : (word bits : ℕ) → what ≡ event.MergeMarks word bits → MergesMarks old.opening.placement old.pages word bits order.held order'.held × (order'.cursors ≡ order.cursors) → IsInOrder old order → IsInOrder new order'
+  ordered-merges : (word bits : ℕ) → what ≡ event.MergeMarks word bits → MergesMarks old.pages word bits order.held order'.held × (order'.cursors ≡ order.cursors) → IsInOrder old order → IsInOrder new order'
   ordered-merges word bits e h was =
       subst (λ (s : State). IsInOrder s order') (sym (merge-same old new word bits answer (subst (λ (w : Event). Step old w answer new) e step)))
       (record {
-        listed = held-merged old.opening.placement old.pages word bits order.held order'.held h.0 was.listed;
-        sound = generations-merged old.opening.placement old.pages word bits order.held order'.held h.0 was.sound;
+        listed = held-merged old.pages word bits order.held order'.held h.0 was.listed;
+        sound = generations-merged old.pages word bits order.held order'.held h.0 was.sound;
         groups = ap (λ (xs : List Gens). length xs) h.0.groups ∙ was.groups;
         marks = h.0.size ∙ was.marks;
         cursors = ap (λ (xs : List (Option ℕ)). length xs) h.1 ∙ was.cursors;
@@ -259,23 +258,15 @@ only_takes_age old new caller what answer none called =
 goes-marked : (generation : Generation) (before after : Pages) (held held' : HeldLists) → GoesOn generation before held after held' → (p : ℕ) → is_marked held'.marks p ≡ true → is_marked held.marks p ≡ true
 goes-marked generation before after held held' goes p m = (and_parts (is_held_in before p && is_held_in after p) (is_marked held.marks p) (sym (goes.marks p) ∙ m)).1
 
--- the merge names the page, and this hit is its last
-abbrev pub is_named : State → HeldLists → ℕ → ℕ → ℕ → Bool
-is_named s held word bits p = is_marking s.opening.placement (is_in_bits word bits) (hits_at held.hits p) (page_at s.pages p)
-
 -- one that is marked after a merge was marked before, or the merge names it
-merged-before : (s : State) (word bits : ℕ) (held held' : HeldLists) → MergesMarks s.opening.placement s.pages word bits held held' → (p : ℕ) → is_marked held'.marks p ≡ true → (is_marked held.marks p ≡ true) ⊎ (is_named s held word bits p ≡ true)
-merged-before s word bits held held' h p m = by_mark (is_marked held.marks p) (is_named s held word bits p) refl refl (sym (h.marks p) ∙ m)
+merged-before : (pages : Pages) (word bits : ℕ) (held held' : HeldLists) → MergesMarks pages word bits held held' → (p : ℕ) → is_marked held'.marks p ≡ true → (is_marked held.marks p ≡ true) ⊎ (there_and (is_in_bits word bits) (page_at pages p) ≡ true)
+merged-before pages word bits held held' h p m = by_mark (is_marked held.marks p) (there_and (is_in_bits word bits) (page_at pages p)) refl refl (sym (h.marks p) ∙ m)
   where
-    by_mark : (a b : Bool) → is_marked held.marks p ≡ a → is_named s held word bits p ≡ b → (is_marked held.marks p || is_named s held word bits p) ≡ true → (is_marked held.marks p ≡ true) ⊎ (is_named s held word bits p ≡ true)
+    by_mark : (a b : Bool) → is_marked held.marks p ≡ a → there_and (is_in_bits word bits) (page_at pages p) ≡ b → (is_marked held.marks p || there_and (is_in_bits word bits) (page_at pages p)) ≡ true
+        → (is_marked held.marks p ≡ true) ⊎ (there_and (is_in_bits word bits) (page_at pages p) ≡ true)
     by_mark true b was named e = inl was
     by_mark false true was named e = inr named
-    by_mark false false was named e = absurd (true≢false (sym e ∙ ap (λ (x : Bool). x || is_named s held word bits p) was ∙ named))
-
--- what is marked so is in the bits
-pub named-in : (placement : Placement) (word bits hits : ℕ) (slot : Option Page) → is_marking placement (is_in_bits word bits) hits slot ≡ true → there_and (is_in_bits word bits) slot ≡ true
-named-in placement word bits hits None named = named
-named-in placement word bits hits (Some page) named = (and_parts (is_in_bits word bits page) (is_last_hit placement (kind_at page.content) hits) named).0
+    by_mark false false was named e = absurd (true≢false (sym e ∙ ap (λ (x : Bool). x || there_and (is_in_bits word bits) (page_at pages p)) was ∙ named))
 
 takes-marked : (old new : State) (order order' : Order) (goal : Goal) (target : ℕ) → TakesNext old order goal target new order' → (p : ℕ) → is_marked order'.held.marks p ≡ true → is_marked order.held.marks p ≡ true
 takes-marked old new order order' goal target h p m = by_mark (is_marked order.held.marks p) refl
@@ -287,29 +278,20 @@ takes-marked old new order order' goal target h p m = by_mark (is_marked order.h
     by_mark true e = refl
     by_mark false e = absurd (true≢false (sym looked ∙ picked-unmarked (is_swap_free old) order.held h.g (Some h.p) h.looked h.picked p e))
 
--- of all calls a merge alone marks a page, and this hit is its last
-pub only_last_hits : (old new : Past) (caller : Caller) (what : Event) (answer : Reply) → Called old caller what answer new → (p : ℕ) → is_marked new.order.held.marks p ≡ true
-    → (is_marked old.order.held.marks p ≡ true) ⊎ ((word bits : ℕ) × (what ≡ event.MergeMarks word bits) × (is_named old.state old.order.held word bits p ≡ true))
-only_last_hits old new caller what answer called p m =
+pub only_merges_mark : OnlyMergesMark
+only_merges_mark old new caller what answer called p m =
     called_or old new caller what answer (λ same. inl (ap (λ (x : Past). is_marked x.order.held.marks p) (sym same) ∙ m))
     (λ h.
     orders_or old.state new.state old.order new.order what answer (λ goal target took same k. inl (takes-marked old.state new.state old.order new.order goal target k p m))
     (λ path e k. inl (ap (λ (x : Order). is_marked x.held.marks p) (sym k) ∙ m))
     (λ g e k. inl (ap (λ (marks : List Bool). is_marked marks p) (sym (removes-marks (node_at old.state.tree g.0).parent g.0 old.order new.order k)) ∙ m))
     (λ word bits e k.
-    elim (merged-before old.state word bits old.order.held new.order.held k.0 p m) [
+    elim (merged-before old.state.pages word bits old.order.held new.order.held k.0 p m) [
       | inl was ↦ inl was
       | inr named ↦ inr (word, bits, e, named)
     ])
     (λ same k. inl (goes-marked (generation_for old.state.opening.placement what) old.state.pages new.state.pages old.order.held new.order.held k.0 p m))
     h.order) called
-
-pub only_merges_mark : OnlyMergesMark
-only_merges_mark old new caller what answer called p m =
-    elim (only_last_hits old new caller what answer called p m) [
-      | inl was ↦ inl was
-      | inr merge ↦ inr (merge.0, merge.1, merge.2, named-in old.state.opening.placement merge.0 merge.1 (hits_at old.order.held.hits p) (page_at old.state.pages p) merge.3)
-    ]
 
 pub merges_change_marks_alone : MergesChangeMarksAlone
 merges_change_marks_alone old new caller word bits answer called =
@@ -322,7 +304,7 @@ merges_change_marks_alone old new caller word bits answer called =
       passes = h.passes;
       lists = h.order.0.groups;
       cursors = h.order.1;
-      kept = λ p e. h.order.0.marks p ∙ ap (λ (b : Bool). b || is_named old.state old.order.held word bits p) e;
+      kept = λ p e. h.order.0.marks p ∙ ap (λ (b : Bool). b || there_and (is_in_bits word bits) (page_at old.state.pages p)) e;
     }) called
 
 -- a merge needs no room but that which each legal past has

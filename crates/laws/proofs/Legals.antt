@@ -18,7 +18,7 @@ use Rattle.turns.specs.declared.turn.Want.{Want}
 use Rattle.turns.specs.declared.turn.Want.TheVariants as want
 use Rattle.turns.specs.declared.turn.Transition.{Transition}
 use Rattle.block_store.specs.Device.{Disk}
-use Rattle.book_events.specs.Events.{event_of, reply_of}
+use Rattle.book.specs.Events.{event_of, reply_of}
 use Rattle.driver.specs.declared.seat.Activity.{Activity}
 use Rattle.driver.specs.declared.seat.Activity.TheVariants.{Rests, Begun, Does}
 use Rattle.machine.specs.State.{Opening, opening_of}

@@ -10,7 +10,7 @@ use Rattle.machine.specs.declared.command.Reply.{Reply as Told_by}
 use Rattle.machine.specs.State.{Opening, opening_of}
 use Rattle.machine.specs.Call.{Past, Caller}
 use Rattle.block_store.specs.Device.{Disk}
-use Rattle.book_events.specs.Events.{event_of, reply_of}
+use Rattle.book.specs.Events.{event_of, reply_of}
 use Rattle.driver.specs.declared.seat.Activity.{Activity}
 use Rattle.turns.specs.declared.turn.Stage.{Stage}
 use Rattle.driver.specs.declared.seat.Outcome.{Outcome}

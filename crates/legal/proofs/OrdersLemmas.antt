@@ -15,9 +15,9 @@ use Rattle.machine.specs.Generations.{Gens}
 use Rattle.machine.specs.Aging.{Seen, is_marked}
 use Rattle.machine.specs.Eviction.{Picks}
 use Rattle.machine.specs.Tree.{node_at}
-use Rattle.machine.specs.Lists.{HeldLists, hits_at, Order, served, seen_of, with_seen, kept_gens, Generation, Youngest, with_fresh, GoesOn, TakesNext, RemovesLists, Keeps, MergesMarks, Orders}
+use Rattle.machine.specs.Lists.{HeldLists, Order, served, seen_of, with_seen, kept_gens, Generation, Youngest, with_fresh, GoesOn, TakesNext, RemovesLists, Keeps, MergesMarks, Orders}
 use Rattle.machine.proofs.Values.{some_inj}
-use Rattle.page_lists.proofs.PicksLemmas.{picks_alike}
+use Rattle.machine.proofs.PicksLemmas.{picks_alike}
 
 -- ---- numbers and marks that answer alike are one
 
@@ -33,20 +33,12 @@ marks_alike [] (n ∷ ns) size h = absurd (omega (arith, size))
 marks_alike (m ∷ ms) [] size h = absurd (omega (arith, size))
 marks_alike (m ∷ ms) (n ∷ ns) size h = let first : m ≡ n = h 0 in let rest = marks_alike ms ns (omega (arith, size)) (λ p. h (suc p)) in cc
 
-hits_alike : (ms ns : List ℕ) → length ms ≡ length ns → ((p : ℕ) → hits_at ms p ≡ hits_at ns p) → ms ≡ ns
-hits_alike [] [] size h = refl
-hits_alike [] (n ∷ ns) size h = absurd (omega (arith, size))
-hits_alike (m ∷ ms) [] size h = absurd (omega (arith, size))
-hits_alike (m ∷ ms) (n ∷ ns) size h = let first : m ≡ n = h 0 in let rest = hits_alike ms ns (omega (arith, size)) (λ p. h (suc p)) in cc
-
 -- ---- the lists
 
--- lists with the same groups, marks and hits are the same
-pub lists_same : (held held' : HeldLists) → held.groups ≡ held'.groups → held.marks ≡ held'.marks → held.hits ≡ held'.hits → held ≡ held'
-lists_same held held' groups marks hits =
-    ap (λ (gs : List Gens). let h : HeldLists = record { groups = gs; marks = held.marks; hits = held.hits } in h) groups
-    ∙ ap (λ (ms : List Bool). let h : HeldLists = record { groups = held'.groups; marks = ms; hits = held.hits } in h) marks
-    ∙ ap (λ (ns : List ℕ). let h : HeldLists = record { groups = held'.groups; marks = held'.marks; hits = ns } in h) hits
+-- lists with the same groups and marks are the same
+pub lists_same : (held held' : HeldLists) → held.groups ≡ held'.groups → held.marks ≡ held'.marks → held ≡ held'
+lists_same held held' groups marks =
+    ap (λ (gs : List Gens). let h : HeldLists = record { groups = gs; marks = held.marks } in h) groups ∙ ap (λ (ms : List Bool). let h : HeldLists = record { groups = held'.groups; marks = ms } in h) marks
 
 -- an order with the same lists and cursors is the same
 pub order_same : (order order' : Order) → order.held ≡ order'.held → order.cursors ≡ order'.cursors → order ≡ order'
@@ -60,8 +52,7 @@ goes_on_alike generation before held after held' held'' h h' =
     let fresh : h.fresh ≡ h'.fresh = numbers_alike h.fresh h'.fresh (λ p. h.which p ∙ sym (h'.which p)) in
     let groups : held'.groups ≡ held''.groups = h.groups ∙ ap (λ (p : Option ℕ). with_fresh generation after p (map (kept_gens after) held.groups)) fresh ∙ sym h'.groups in
     let marks : held'.marks ≡ held''.marks = marks_alike held'.marks held''.marks (h.size ∙ sym h'.size) (λ p. h.marks p ∙ sym (h'.marks p)) in
-    let hits : held'.hits ≡ held''.hits = hits_alike held'.hits held''.hits (h.counts ∙ sym h'.counts) (λ p. h.hits p ∙ sym (h'.hits p)) in
-    lists_same held' held'' groups marks hits
+    lists_same held' held'' groups marks
 
 -- ---- the order
 
@@ -97,12 +88,10 @@ module _ (old new : State) (order order' order'' : Order) where
       order_same order' order'' held cursors
 
   -- marks that are merged
-  merges_alike : (word bits : ℕ) → MergesMarks old.opening.placement old.pages word bits order.held order'.held × (order'.cursors ≡ order.cursors)
-      → MergesMarks old.opening.placement old.pages word bits order.held order''.held × (order''.cursors ≡ order.cursors) → order' ≡ order''
+  merges_alike : (word bits : ℕ) → MergesMarks old.pages word bits order.held order'.held × (order'.cursors ≡ order.cursors) → MergesMarks old.pages word bits order.held order''.held × (order''.cursors ≡ order.cursors) → order' ≡ order''
   merges_alike word bits h h' =
       let marks : order'.held.marks ≡ order''.held.marks = marks_alike order'.held.marks order''.held.marks (h.0.size ∙ sym h'.0.size) (λ p. h.0.marks p ∙ sym (h'.0.marks p)) in
-      let hits : order'.held.hits ≡ order''.held.hits = hits_alike order'.held.hits order''.held.hits (h.0.counts ∙ sym h'.0.counts) (λ p. h.0.hits p ∙ sym (h'.0.hits p)) in
-      order_same order' order'' (lists_same order'.held order''.held (h.0.groups ∙ sym h'.0.groups) marks hits) (h.1 ∙ sym h'.1)
+      order_same order' order'' (lists_same order'.held order''.held (h.0.groups ∙ sym h'.0.groups) marks) (h.1 ∙ sym h'.1)
 
   -- lists that go over to a parent's
   removes_alike : (parent : Option ℕ) (g : ℕ) → RemovesLists parent g order order' → RemovesLists parent g order order'' → order' ≡ order''

@@ -24,8 +24,8 @@ use Rattle.machine.proofs.RemovedLemmas.{regrouped-test, without-parent, without
 use Rattle.machine.proofs.SlotLemmas.{count_there-none}
 use Rattle.machine.proofs.TestLemmas.{tests-less}
 use Rattle.legal.proofs.SoundLemmas.{IsFit, IsSound}
-use Rattle.page_lists.proofs.HeldLemmas.{at-set}
-use Rattle.page_lists.proofs.HandedLemmas.{held-handed, generations-handed}
+use Rattle.machine.proofs.HeldLemmas.{at-set}
+use Rattle.machine.proofs.HandedLemmas.{held-handed, generations-handed}
 use Rattle.counts.proofs.CountLemmas.{total-alike}
 
 -- whatever answers a removal, the group is removed
@@ -166,7 +166,7 @@ module _ (old new : State) (g : ℕ) (removes : Removes old g new) (falls : IsTr
   apart same = let low = lower in omega (arith, low, same)
 
   abbrev pub handed : HeldLists
-  handed = record { groups = handed_over g removes.parent held.groups; marks = held.marks; hits = held.hits }
+  handed = record { groups = handed_over g removes.parent held.groups; marks = held.marks }
 
   pub held-removed : ListsHeld old.pages held → ListsHeld new.pages handed
   held-removed were = held-handed old.pages new.pages held g removes.parent apart here there were removes.pages

@@ -20,7 +20,7 @@ use Rattle.machine.specs.Lists.{Order, seen_of, is_next_of, gives, gives_old, se
 use Rattle.machine.specs.Legal.{Legal}
 use Rattle.machine.proofs.Values.{some_inj, unlike}
 use Rattle.machine.proofs.TreeLemmas.{eq_cases, under_at-None, under_at-step}
-use Rattle.page_lists.proofs.TakeableLemmas.{next-takeable, takeable-below}
+use Rattle.machine.proofs.TakeableLemmas.{next-takeable, takeable-below}
 use Rattle.legal.proofs.SoundLemmas.{live-below, legal-sound, legal-fit}
 
 -- ---- the first of a list that passes

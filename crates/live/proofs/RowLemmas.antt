@@ -12,7 +12,7 @@ use Rattle.live.specs.Exchanges.{kept_of}
 use Rattle.turns.specs.declared.turn.Stage.{Stage}
 use Rattle.turns.specs.declared.turn.Transition.{Transition}
 use Rattle.turns.specs.Turns.{Judged, paths_of, judged, answer_by}
-use Rattle.judging.specs.Finds.{looking}
+use Rattle.turns.specs.Finds.{looking}
 use Rattle.turns.specs.Tickets.{holds}
 use Rattle.live.specs.Works.{GoesOn, JudgedRuns, Does, Works, Worked, Repeated, no_memory, finds_of}
 use Rattle.live.specs.Runs.{Made, Linked, Closed, Under, Ran, Looked, Judging, Did, Done}

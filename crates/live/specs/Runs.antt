@@ -6,7 +6,7 @@ use Rattle.machine.specs.declared.command.Command.{Command}
 use Rattle.machine.specs.declared.command.Answer.{Answer}
 use Rattle.machine.specs.declared.command.Answer.TheVariants as answer
 use Rattle.machine.specs.declared.command.Reply.{Reply as Told_by}
-use Rattle.book_events.specs.declared.event.Event.{Event}
+use Rattle.book.specs.declared.event.Event.{Event}
 use Rattle.turns.specs.declared.turn.Pending.{Pending}
 use Rattle.turns.specs.declared.turn.Stage.{Stage}
 use Rattle.turns.specs.declared.turn.Transition.{Transition}

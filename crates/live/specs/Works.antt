@@ -11,9 +11,9 @@ use Rattle.machine.specs.declared.command.Answer.TheVariants as answer
 use Rattle.machine.specs.declared.command.Reply.{Reply as Told_by}
 use Rattle.block_store.specs.declared.device.Fault.{Fault}
 use Rattle.pages.specs.Tickets.{TicketOf}
-use Rattle.book_events.specs.declared.event.Event.{Event}
-use Rattle.book_events.specs.declared.event.Reply.{Reply}
-use Rattle.book_events.specs.Events.{event_of, reply_of}
+use Rattle.book.specs.declared.event.Event.{Event}
+use Rattle.book.specs.declared.event.Reply.{Reply}
+use Rattle.book.specs.Events.{event_of, reply_of}
 use Rattle.turns.specs.declared.turn.Access.{Access}
 use Rattle.turns.specs.declared.turn.Resume.{Resume}
 use Rattle.turns.specs.declared.turn.Pending.{Pending}

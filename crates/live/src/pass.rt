@@ -2,9 +2,9 @@
 
 ghost use Rattle.std.specs.Prelude.{◌≡◌, ◌<◌, ◌≤◌, ◌∷◌, [], map, OnOk, OnErr, IfOk, true, false};
 ghost use Rattle.machine.specs.Call.{leaves_entry};
-ghost use Rattle.book_events.specs.Events.{event_of, reply_of};
+ghost use Rattle.book.specs.Events.{event_of, reply_of};
 ghost use Rattle.book.specs.Passes.{CalledWith};
-ghost use Rattle.book_events.specs.Replies.{Replies, KeepsTicket, HandsOut};
+ghost use Rattle.book.specs.Replies.{Replies, KeepsTicket, HandsOut};
 ghost use Rattle.turns.specs.Tickets.{holds};
 ghost use Rattle.turns.specs.Turns.{paths_of};
 ghost use Rattle.live.specs.declared.history.Exchange.TheVariants.{Call};
@@ -22,12 +22,12 @@ use crate::history::{Asked, Front, Log, Paths};
 use crate::opened::Opened;
 use crate::report::EndedPass;
 use book::{Book, Event, Kept, Reply};
-use judging::judge::judge;
 use machine::command::{Actor, Command};
 use machine::refusal::Refusal;
 use std::alloc::{AllocError, Global};
 use std::marker::{Model, PhantomData};
 use turns::automaton::spend;
+use turns::judge::judge;
 use turns::turn::Stage;
 
 /// A worker's permission to ask the book that workers share. It keeps what the worker asked and what the book

@@ -1,8 +1,8 @@
 //! The loop of a worker: one command after another, one turn after another.
 
 ghost use Rattle.std.specs.Prelude.{◌≡◌, ℕ, ◌+◌, ◌<◌, ◌≤◌, ◌++◌, [], true, false, length, IfOk, IfErr, OnOk, OnErr, IfSome, IfNone, vec_len, vec_capacity};
-ghost use Rattle.book_events.specs.Events.{event_of, reply_of};
-ghost use Rattle.book_events.specs.Replies.{Replies};
+ghost use Rattle.book.specs.Events.{event_of, reply_of};
+ghost use Rattle.book.specs.Replies.{Replies};
 ghost use Rattle.turns.specs.Turns.{AwaitsAll, resumes_at, answer_by};
 ghost use Rattle.turns.specs.Tickets.{blocks_in, is_ending, holds, holds_after, IsOwn, OwnEvent, OwnReply, OwnStage, OwnTransition, IsHanded};
 ghost use Rattle.live.specs.Passes.{answering};
@@ -18,12 +18,12 @@ use crate::opened::Opened;
 use crate::pass::Pass;
 use block_store::SharedDevice;
 use book::{Event, InTicket, OutTicket, Reply};
-use judging::judge::judge_task;
 use machine::command::{Actor, Answer, Command, Reply as Told, Word};
 use machine::refusal::Refusal;
 use std::alloc::AllocError;
 use std::sync::Wait;
 use turns::automaton::{ask, holds, let_go, resumes_at, told};
+use turns::judge::judge_task;
 use turns::turn::{Access, Pending, Resume, Stage, Transition, Want};
 
 fn out_of_memory(actor: Actor) -> Told

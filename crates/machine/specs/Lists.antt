@@ -1,5 +1,5 @@
 -- The pages that are held, in generation lists by group, and the page that a reclaim takes of them (mm/vmscan.c: shrink_node_memcgs; mm/multigen_lru).
-use Rattle.std.specs.Prelude.{◌≡◌, ℕ, ◌+◌, ◌-◌, ◌/◌, ◌%◌, ◌==◌, ◌&&◌, ◌||◌, not, nat_le, nat_lt, Bool, true, false, if◌then◌else◌, List, [], ◌∷◌, ◌++◌, length, map, filter, replicate, slice_index_or, slice_set, Option, Some, None}
+use Rattle.std.specs.Prelude.{◌≡◌, ℕ, ◌+◌, ◌-◌, ◌/◌, ◌%◌, ◌==◌, ◌&&◌, ◌||◌, not, nat_lt, Bool, true, false, if◌then◌else◌, List, [], ◌∷◌, ◌++◌, length, map, filter, replicate, slice_set, Option, Some, None}
 use Rattle.std.specs.Int.{bit_at}
 use Rattle.machine.specs.declared.config.Placement.{Placement}
 use Rattle.machine.specs.declared.config.Placement.TheVariants.{Own, Linux}
@@ -26,25 +26,19 @@ use Rattle.machine.specs.Generations.{Row, Gens, of_kind, row_of, has_page, new_
 use Rattle.machine.specs.Aging.{Seen, is_marked}
 use Rattle.machine.specs.Eviction.{has_old_file, Picks}
 
--- the pages in frames that are in no transfer: by group number the generation lists that they are on; and by page number whether a page is marked as accessed, and where it isn't, how many
--- of the hits that it takes have come
+-- the pages in frames that are in no transfer: by group number the generation lists that they are on, and by page number whether a page is marked as accessed
 pub record HeldLists : Type 0 where
   pub groups : List Gens
   pub marks : List Bool
-  pub hits : List ℕ
-
-abbrev pub hits_at : List ℕ → ℕ → ℕ
-hits_at hits p = slice_index_or hits p 0
 
 -- these; and by target the group that was served last for it
 pub record Order : Type 0 where
   pub held : HeldLists
   pub cursors : List (Option ℕ)
 
--- the root without a page; a page number for each frame and each swap block, none of them marked or hit; and the root for which no group was served
+-- the root without a page; a page number for each frame and each swap block, none of them marked; and the root for which no group was served
 abbrev pub first_order : Opening → Order
-first_order opening =
-    record { held = record { groups = new_gens ∷ []; marks = replicate (page_numbers opening) false; hits = replicate (page_numbers opening) 0 }; cursors = None ∷ [] }
+first_order opening = record { held = record { groups = new_gens ∷ []; marks = replicate (page_numbers opening) false }; cursors = None ∷ [] }
 
 -- ---- the group and the page
 
@@ -69,7 +63,7 @@ served s order goal target = served_first (heeds_age s.opening.placement goal ta
 
 -- one group has other lists, and there are other marks
 abbrev pub with_seen : HeldLists → ℕ → Seen → HeldLists
-with_seen held g seen = record { groups = with_gens held.groups g seen.gens; marks = seen.marks; hits = held.hits }
+with_seen held g seen = record { groups = with_gens held.groups g seen.gens; marks = seen.marks }
 
 -- the page of the group that is evicted next, and the lists after the search for it. (Excludes a search that ages the lists of other groups, or of the target.)
 pub record PicksOf (swap_free : Bool) (held : HeldLists) (g : ℕ) (answer : Option ℕ) (held' : HeldLists) : Type 0 where
@@ -88,11 +82,10 @@ kind_at (OfFile file page) = File
 abbrev pub is_held_of : ℕ → Kind → Page → Bool
 is_held_of g kind page = is_held page && ((page.group == g) && of_kind kind (is_anon page.content) (not (is_anon page.content)))
 
--- each page that is held is in the row of its group and type, and no other page is there; and no page is marked, or has a hit that counts, but one that is held
+-- each page that is held is in the row of its group and type, and no other page is there; and no page is marked but one that is held
 pub record ListsHeld (pages : Pages) (held : HeldLists) : Type 0 where
   pub rows : (g : ℕ) (kind : Kind) (p : ℕ) → has_page p (row_of kind (gens_at held.groups g)).pages ≡ there_and (is_held_of g kind) (page_at pages p)
   pub marked : (p : ℕ) → is_marked held.marks p ≡ true → is_held_in pages p ≡ true
-  pub counted : (p : ℕ) → is_held_in pages p ≡ false → hits_at held.hits p ≡ 0
 
 -- each group's lists are sound: two to four generations of a type, by rising number, and no page twice
 abbrev pub AreGenerations : HeldLists → Type 0
@@ -153,27 +146,14 @@ abbrev pub with_fresh : Generation → Pages → Option ℕ → List Gens → Li
 with_fresh generation after None groups = groups
 with_fresh generation after (Some p) groups = with_page generation p (page_at after p) groups
 
--- with its read-in a page has one hit, as Linux places pages. (Excludes a read-in that counts twice, with the access that it was for.)
-abbrev pub hits_at_entry : Generation → ℕ
-hits_at_entry ByType = 1
-hits_at_entry generation = 0
-
--- a page that was held, or not, and is, or not, has so many hits if it had these
-abbrev pub hits_kept : Generation → Bool → Bool → ℕ → ℕ
-hits_kept generation was false hits = 0
-hits_kept generation true true hits = hits
-hits_kept generation false true hits = hits_at_entry generation
-
 -- the pages change: what is held no more leaves its list, and all others stay where they stood; what is held from now on, one page at most, enters this generation; and no page
--- keeps its mark or its hits but those that stay. (Excludes a page that comes marked, a mark that its page leaves behind, and a count that goes on in the next page of the frame.)
+-- keeps its mark but those that stay. (Excludes a page that comes marked, and a mark that its page leaves behind.)
 pub record GoesOn (generation : Generation) (before : Pages) (held : HeldLists) (after : Pages) (held' : HeldLists) : Type 0 where
   pub fresh : Option ℕ
   pub which : (p : ℕ) → is_number fresh p ≡ is_fresh before after p
   pub groups : held'.groups ≡ with_fresh generation after fresh (map (kept_gens after) held.groups)
   pub size : length held'.marks ≡ length held.marks
   pub marks : (p : ℕ) → is_marked held'.marks p ≡ (is_held_in before p && is_held_in after p && is_marked held.marks p)
-  pub counts : length held'.hits ≡ length held.hits
-  pub hits : (p : ℕ) → hits_at held'.hits p ≡ hits_kept generation (is_held_in before p) (is_held_in after p) (hits_at held.hits p)
 
 -- the page that a place shows: of a task's memory, or of a file
 abbrev pub shown_at : State → ℕ → Place → Option ℕ
@@ -194,45 +174,19 @@ is_in_bits_at word bits residence = false
 abbrev pub is_in_bits : ℕ → ℕ → Page → Bool
 is_in_bits word bits page = is_in_bits_at word bits page.residence
 
--- how many hits mark a page: as Linux places pages, five of a page of a file; else the first does. (kernel: sort_folio, BIT(LRU_REFS_WIDTH). Excludes a file that four reads keep, and
--- memory that wants five.)
-abbrev pub hits_to_mark : Placement → Kind → ℕ
-hits_to_mark Linux File = 5
-hits_to_mark placement kind = 1
-
--- after so many hits, this one marks a page of this type
-abbrev pub is_last_hit : Placement → Kind → ℕ → Bool
-is_last_hit placement kind hits = nat_le (hits_to_mark placement kind) (hits + 1)
-
--- the hit counts where the page isn't marked, and the one that marks it ends the count. (Excludes a page that is marked again by its next hit, once it has lost its mark.)
-abbrev pub hits_after : Placement → Kind → Bool → ℕ → ℕ
-hits_after placement kind true hits = hits
-hits_after placement kind false hits = if is_last_hit placement kind hits then 0 else hits + 1
-
--- what is there at a page's number passes the test, and after so many hits this one marks it
-abbrev pub is_marking : Placement → (Page → Bool) → ℕ → Option Page → Bool
-is_marking placement test hits None = false
-is_marking placement test hits (Some page) = test page && is_last_hit placement (kind_at page.content) hits
-
-abbrev pub hits_with : Placement → (Page → Bool) → Bool → ℕ → Option Page → ℕ
-hits_with placement test marked hits None = hits
-hits_with placement test marked hits (Some page) = if test page then hits_after placement (kind_at page.content) marked hits else hits
-
--- the pages that pass the test are hit, and nothing else changes. (Excludes a mark that is lost.)
-pub record HitsThose (placement : Placement) (test : Page → Bool) (pages : Pages) (held held' : HeldLists) : Type 0 where
+-- the pages that pass the test are marked, and nothing else changes. (Excludes a mark that is lost.)
+pub record MarksThose (test : Page → Bool) (pages : Pages) (held held' : HeldLists) : Type 0 where
   pub groups : held'.groups ≡ held.groups
   pub size : length held'.marks ≡ length held.marks
-  pub marks : (p : ℕ) → is_marked held'.marks p ≡ (is_marked held.marks p || is_marking placement test (hits_at held.hits p) (page_at pages p))
-  pub counts : length held'.hits ≡ length held.hits
-  pub hits : (p : ℕ) → hits_at held'.hits p ≡ hits_with placement test (is_marked held.marks p) (hits_at held.hits p) (page_at pages p)
+  pub marks : (p : ℕ) → is_marked held'.marks p ≡ (is_marked held.marks p || there_and test (page_at pages p))
 
--- the pages held in the frames of these bits are hit. (Excludes a page in transfer that is marked, and a mark for the page that had the frame before.)
-abbrev pub MergesMarks : Placement → Pages → ℕ → ℕ → HeldLists → HeldLists → Type 0
-MergesMarks placement pages word bits held held' = HitsThose placement (is_in_bits word bits) pages held held'
+-- the pages held in the frames of these bits are marked. (Excludes a page in transfer that is marked, and a mark for the page that had the frame before.)
+abbrev pub MergesMarks : Pages → ℕ → ℕ → HeldLists → HeldLists → Type 0
+MergesMarks pages word bits held held' = MarksThose (is_in_bits word bits) pages held held'
 
 -- a group more, with no page
 abbrev pub with_group : HeldLists → HeldLists
-with_group held = record { groups = held.groups ++ new_gens ∷ []; marks = held.marks; hits = held.hits }
+with_group held = record { groups = held.groups ++ new_gens ∷ []; marks = held.marks }
 
 -- ---- how the order goes on
 
@@ -252,11 +206,11 @@ pub record TakesNext (old : State) (order : Order) (goal : Goal) (target : ℕ) 
 abbrev pub AddsLists : Order → Order → Type 0
 AddsLists order order' = order' ≡ record { held = with_group order.held; cursors = order.cursors ++ None ∷ [] }
 
--- the pages of a group that goes are on its parent's lists, marked and hit as they were; which group was served last for it as a target is forgotten, and no other cursor moves: one that names
+-- the pages of a group that goes are on its parent's lists, marked as they were; which group was served last for it as a target is forgotten, and no other cursor moves: one that names
 -- the group is as if none was served. (Excludes pages that lose their marks on the way.)
 abbrev pub RemovesLists : Option ℕ → ℕ → Order → Order → Type 0
 RemovesLists None g order order' = ⊥
-RemovesLists (Some parent) g order order' = order' ≡ record { held = record { groups = handed_over g parent order.held.groups; marks = order.held.marks; hits = order.held.hits }; cursors = slice_set order.cursors g None }
+RemovesLists (Some parent) g order order' = order' ≡ record { held = record { groups = handed_over g parent order.held.groups; marks = order.held.marks }; cursors = slice_set order.cursors g None }
 
 -- no list is aged, no page is marked, and no cursor moves. (Excludes lists that age though no page is taken, and an access that marks what it used.)
 abbrev pub Keeps : State → Order → Event → Reply → State → Order → Type 0
@@ -270,5 +224,5 @@ Orders old order (event.ReclaimOne g) (reply.Out ticket) new order' = TakesNext 
 Orders old order (event.ReclaimOne g) reply.Dropped new order' = TakesNext old order Amount g.0 new order'
 Orders old order (event.Rmdir g) answer new order' = RemovesLists (node_at old.tree g.0).parent g.0 order order'
 Orders old order (event.Mkdir path) answer new order' = AddsLists order order'
-Orders old order (event.MergeMarks word bits) answer new order' = MergesMarks old.opening.placement old.pages word bits order.held order'.held × (order'.cursors ≡ order.cursors)
+Orders old order (event.MergeMarks word bits) answer new order' = MergesMarks old.pages word bits order.held order'.held × (order'.cursors ≡ order.cursors)
 Orders old order what answer new order' = Keeps old order what answer new order'

@@ -1,3 +1,2 @@
 pub mod WorstLemmas
-pub mod KillGroupLemmas
 pub mod ClimbLemmas

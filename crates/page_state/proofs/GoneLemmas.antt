@@ -131,7 +131,7 @@ module _ (s : Inside) (is : IsJoined s) (g parent : ℕ) (may : MayGo (joined_of
       }
 
   pub removes-group : (node_at s.tree g).parent ≡ Some parent → counters.limits ≡ s.parts.counters.limits → ((q o : ℕ) → byte_in pages.bytes q o ≡ byte_in s.parts.pages.bytes q o)
-      → held ≡ record (s.parts.held) { lists = record { groups = handed_over g parent s.parts.held.lists.groups; marks = s.parts.held.lists.marks; hits = s.parts.held.lists.hits } } → events.counted ≡ s.events.counted → RemovesGroup (joined_of s) (joined_of after) g
+      → held ≡ record (s.parts.held) { lists = record { groups = handed_over g parent s.parts.held.lists.groups; marks = s.parts.held.lists.marks } } → events.counted ≡ s.events.counted → RemovesGroup (joined_of s) (joined_of after) g
   removes-group below limits bytes takes same =
       let old : StateOf = joined_of s in
       record {
@@ -142,7 +142,7 @@ module _ (s : Inside) (is : IsJoined s) (g parent : ℕ) (may : MayGo (joined_of
             ∙ ap (λ (ls : List Limits). record (old.tables) { tree = without_group s.tree g; limits = ls; pages = pages.pages; counted = events.counted }) limits
             ∙ ap (λ (cs : List EventCounts). record (old.tables) { tree = without_group s.tree g; limits = s.parts.counters.limits; pages = pages.pages; counted = cs }) same;
         order = ap (λ (x : HeldOf). let o : Order = record { held = x.lists; cursors = cursors.cursors } in o) takes
-            ∙ ap (λ (cs : List (Option ℕ)). let o : Order = record { held = record { groups = handed_over g parent s.parts.held.lists.groups; marks = s.parts.held.lists.marks; hits = s.parts.held.lists.hits }; cursors = cs } in o) served;
+            ∙ ap (λ (cs : List (Option ℕ)). let o : Order = record { held = record { groups = handed_over g parent s.parts.held.lists.groups; marks = s.parts.held.lists.marks }; cursors = cs } in o) served;
         bytes = bytes;
         flights = ap (λ (t : PagesOf). t.flights) others;
       }

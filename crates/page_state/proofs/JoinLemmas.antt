@@ -10,7 +10,7 @@ use Rattle.std.proofs.lemmas.Bool.Decides.{nat_tests}
 use Rattle.std.proofs.lemmas.List.{length-append}
 use Rattle.machine.specs.Tasks.{lives, group_of_task}
 use Rattle.machine.specs.Step.{new_node}
-use Rattle.page_lists.proofs.CursorLemmas.{cursors-push}
+use Rattle.machine.proofs.CursorLemmas.{cursors-push}
 use Rattle.files.specs.Files.{FilesOf}
 use Rattle.group_tree.specs.Flags.{FlagsOf}
 use Rattle.group_tree.specs.Kin.{AreKin}

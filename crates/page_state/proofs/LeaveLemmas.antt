@@ -6,13 +6,13 @@ use Rattle.machine.specs.declared.event.Goal.{Goal}
 use Rattle.machine.specs.Slots.{there_and}
 use Rattle.machine.specs.Pages.{Content, Memory, OfFile, Page, Held, Going, page_at, home_block, is_anon, is_held, is_held_in, used_swap}
 use Rattle.machine.specs.Reclaim.{is_next}
-use Rattle.page_lists.proofs.TakeableLemmas.{next-takeable}
+use Rattle.machine.proofs.TakeableLemmas.{next-takeable}
 use Rattle.machine.specs.Generations.{is_listed, gens_at}
 use Rattle.machine.specs.Lists.{Youngest, AreGenerations, GoesOn, PicksOf, TakesNext, served}
 use Rattle.machine.specs.State.{is_swap_free}
 use Rattle.machine.proofs.Values.{some_inj}
-use Rattle.page_lists.proofs.CursorLemmas.{cursors-set}
-use Rattle.page_lists.proofs.HeldLemmas.{goes-max}
+use Rattle.machine.proofs.CursorLemmas.{cursors-set}
+use Rattle.machine.proofs.HeldLemmas.{goes-max}
 use Rattle.pages.specs.declared.way.WayOut.TheVariants as way
 use Rattle.pages.specs.Tickets.{TicketOf}
 use Rattle.pages.specs.PagesOf.{Label, labelled, of_file, HasResidence, way_of}

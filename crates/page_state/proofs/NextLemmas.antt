@@ -24,10 +24,10 @@ use Rattle.machine.specs.declared.record.Kind.TheVariants.{Anon, File}
 use Rattle.machine.specs.Generations.{Listed, Gens, row_of, has_page, is_listed, gens_at}
 use Rattle.machine.specs.Aging.{is_marked}
 use Rattle.machine.specs.Eviction.{is_nil, has_usable, has_old_file}
-use Rattle.machine.specs.Lists.{HeldLists, ListsHeld, AreGenerations, Order, PicksOf, is_held_of, is_next_of, seen_of, gives, gives_old, served, hits_at}
+use Rattle.machine.specs.Lists.{HeldLists, ListsHeld, AreGenerations, Order, PicksOf, is_held_of, is_next_of, seen_of, gives, gives_old, served}
 use Rattle.machine.proofs.SlotLemmas.{any_there-none, count_there-none}
 use Rattle.machine.proofs.TreeLemmas.{eq_cases}
-use Rattle.page_lists.proofs.HeldChanges.{unheld-unlisted}
+use Rattle.machine.proofs.HeldChanges.{unheld-unlisted}
 use Rattle.group_tree.specs.Groups.{IsGroupTree}
 use Rattle.group_tree.proofs.LineageLemmas.{live-within}
 use Rattle.page_counter.specs.Counts.{usage_of}
@@ -39,7 +39,7 @@ use Rattle.page_state.specs.declared.joined.State.TheInside.{Inside}
 use Rattle.page_state.specs.Joined.{joined_of, IsJoined}
 use Rattle.machine.specs.State.{State, is_swap_free}
 use Rattle.machine.specs.Reclaim.{is_beyond_its, is_unprotected, is_above_low, is_takeable, has_takeable, is_open, has_open, is_next}
-use Rattle.page_lists.proofs.TakeableLemmas.{next-takeable, next-open, takeable-goes, takeable-unprotected, takeable-below, takeable-held}
+use Rattle.machine.proofs.TakeableLemmas.{next-takeable, next-open, takeable-goes, takeable-unprotected, takeable-below, takeable-held}
 use Rattle.counts.specs.Numbers.{times}
 use Rattle.page_state.specs.Queue.{numbers_of}
 use Rattle.held_pages.specs.Held.{KeepsRows}
@@ -216,12 +216,7 @@ module _ (pages : Pages) (held : HeldLists) (lists : ListsHeld pages held) where
 
   -- after a search the lists have the held pages still
   pub held-searched : (held' : HeldLists) → KeepsRows held held' → ListsHeld pages held'
-  held-searched held' keeps =
-      record {
-        rows = λ g kind p. keeps.rows g kind p ∙ lists.rows g kind p;
-        marked = λ p marked. by_held p (is_held_in pages p) refl marked;
-        counted = λ p gone. ap (λ (ns : List ℕ). hits_at ns p) keeps.hits ∙ lists.counted p gone;
-      }
+  held-searched held' keeps = record { rows = λ g kind p. keeps.rows g kind p ∙ lists.rows g kind p; marked = λ p marked. by_held p (is_held_in pages p) refl marked }
     where
       by_held : (p : ℕ) (b : Bool) → is_held_in pages p ≡ b → is_marked held'.marks p ≡ true → b ≡ true
       by_held p true is marked = refl

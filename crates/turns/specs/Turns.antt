@@ -33,11 +33,11 @@ use Rattle.machine.specs.Control.{file_named, has_file, amount_of, flag_of, text
 use Rattle.block_store.specs.declared.device.Fault.{Fault}
 use Rattle.block_store.specs.Device.{Disk, ReadsBlock, WritesBlock}
 use Rattle.pages.specs.Tickets.{TicketOf}
-use Rattle.book_events.specs.declared.event.Event.{Event}
-use Rattle.book_events.specs.declared.event.Event.TheVariants as event
-use Rattle.book_events.specs.declared.event.Reply.{Reply}
-use Rattle.book_events.specs.declared.event.Reply.TheVariants as reply
-use Rattle.book_events.specs.Replies.{Replies, IsAccessReply, IsReliefReply, IsReclaimReply, IsOkReply, IsTaskReply, IsShownReply, IsInReply, IsOutReply}
+use Rattle.book.specs.declared.event.Event.{Event}
+use Rattle.book.specs.declared.event.Event.TheVariants as event
+use Rattle.book.specs.declared.event.Reply.{Reply}
+use Rattle.book.specs.declared.event.Reply.TheVariants as reply
+use Rattle.book.specs.Replies.{Replies, IsAccessReply, IsReliefReply, IsReclaimReply, IsOkReply, IsTaskReply, IsShownReply, IsInReply, IsOutReply}
 use Rattle.turns.specs.declared.turn.Access.{Access}
 use Rattle.turns.specs.declared.turn.Resume.{Resume}
 use Rattle.turns.specs.declared.turn.Resume.TheVariants as resume

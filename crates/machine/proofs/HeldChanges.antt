@@ -1,10 +1,10 @@
 -- How the lists of held pages go on where one page changes, and over two changes.
-use Rattle.std.proofs.Common.{◌≡◌, ◌≢◌, inl, inr, ℕ, zero, suc, ◌<◌, ◌≤◌, ◌==◌, ◌&&◌, ◌||◌, not, nat_le, nat_lt, Bool, true, false, cond, eqb, List, [], ◌∷◌, ◌++◌, length, map, filter, set, Option, Some, None, refl, sym, ap, ◌∙◌, subst, arith, length-set}
+use Rattle.std.proofs.Common.{◌≡◌, ◌≢◌, inl, inr, ℕ, zero, suc, ◌<◌, ◌≤◌, ◌==◌, ◌&&◌, ◌||◌, not, nat_le, nat_lt, Bool, true, false, cond, eqb, List, [], ◌∷◌, ◌++◌, map, filter, set, Option, Some, None, refl, sym, ap, ◌∙◌, subst, arith, length-set}
 use Rattle.std.specs.List.{AllByRecursion}
 use Rattle.std.proofs.Math.ListN.{get_or-map}
 use Rattle.std.proofs.lemmas.Bool.{and_right, eq-eqb, eqb-true, ne_eqb, true≢false}
 use Rattle.std.proofs.lemmas.Bool.Decides.{nat_tests}
-use Rattle.std.proofs.lemmas.List.{map-set, set-get_or, get_or-set_same, get_or-set_other}
+use Rattle.std.proofs.lemmas.List.{map-set, set-get_or, get_or-set_other}
 use Rattle.std.proofs.lemmas.List.Elements.{filter-append}
 use Rattle.machine.specs.declared.record.Kind.{Kind}
 use Rattle.machine.specs.declared.record.Kind.TheVariants.{Anon, File}
@@ -12,11 +12,11 @@ use Rattle.machine.specs.Slots.{there_and}
 use Rattle.machine.specs.Pages.{Page, Pages, page_at, is_held, is_held_in, is_number}
 use Rattle.machine.specs.Generations.{Listed, Row, Gens, new_gens, row_of, has_page, is_listed, without, entered, added, isolated, gens_at, with_gens, IsRising}
 use Rattle.machine.specs.Aging.{is_marked}
-use Rattle.machine.specs.Lists.{HeldLists, ListsHeld, AreGenerations, is_fresh, kept_row, kept_gens, Generation, Youngest, SecondYoungest, ByType, seq_in, kind_at, with_page, with_fresh, hits_at, hits_at_entry, hits_kept, GoesOn}
+use Rattle.machine.specs.Lists.{HeldLists, ListsHeld, AreGenerations, is_fresh, kept_row, kept_gens, Generation, Youngest, SecondYoungest, ByType, seq_in, kind_at, with_page, with_fresh, GoesOn}
 use Rattle.machine.proofs.TreeLemmas.{eq_cases}
-use Rattle.page_lists.proofs.ListedLemmas.{each-has, each-weaker, none-in, rising-filter}
-use Rattle.page_lists.proofs.AgingLemmas.{clear-here}
-use Rattle.page_lists.proofs.HeldLemmas.{of-held, hits-stay}
+use Rattle.machine.proofs.ListedLemmas.{each-has, each-weaker, none-in, rising-filter}
+use Rattle.machine.proofs.AgingLemmas.{clear-here}
+use Rattle.machine.proofs.HeldLemmas.{of-held}
 
 -- ---- filters
 
@@ -179,12 +179,6 @@ mark-stays a b false was is = sym (and_right (a && b) false refl)
 mark-stays false b true was is = absurd (true≢false (sym (was refl)))
 mark-stays true false true was is = absurd (true≢false (sym (is refl)))
 
--- no hit counts where the count was ended
-none-here : (hits : List ℕ) (p : ℕ) → hits_at (set hits p 0) p ≡ 0
-none-here [] p = refl
-none-here (n ∷ hits) zero = refl
-none-here (n ∷ hits) (suc p) = none-here hits p
-
 -- the same pages are held
 pub goes-on-same : (generation : Generation) (before after : Pages) (held : HeldLists) → ListsHeld before held → ((q : ℕ) → is_held_in after q ≡ is_held_in before q) → GoesOn generation before held after held
 goes-on-same generation before after held lists alike =
@@ -194,14 +188,12 @@ goes-on-same generation before after held lists alike =
       groups = sym (map-same (kept_gens after) held.groups (λ g. kept-all after (gens_at held.groups g) (λ kind. each-weaker (λ l. is_held_in before l.page ≡ true) (λ l. is_held_in after l.page ≡ true) (λ l h. alike l.page ∙ h) (row_of kind (gens_at held.groups g)).pages (row-held before held lists g kind))));
       size = refl;
       marks = λ q. mark-stays (is_held_in before q) (is_held_in after q) (is_marked held.marks q) (lists.marked q) (λ h. alike q ∙ lists.marked q h);
-      counts = refl;
-      hits = λ q. hits-stay generation (is_held_in before q) (is_held_in after q) (hits_at held.hits q) (alike q) (lists.counted q);
     }
 
 module _ (generation : Generation) (before after : Pages) (held : HeldLists) (lists : ListsHeld before held) (p : ℕ) (others : (q : ℕ) → q ≢ p → is_held_in after q ≡ is_held_in before q) where
   -- a page of a group left its list with its mark
   pub goes-on-out : (g : ℕ) → is_listed (gens_at held.groups g) p ≡ true → ((h : ℕ) → h ≢ g → is_listed (gens_at held.groups h) p ≡ false) → is_held_in after p ≡ false
-      → GoesOn generation before held after (let h : HeldLists = record { groups = with_gens held.groups g (isolated p (gens_at held.groups g)); marks = set held.marks p false; hits = set held.hits p 0 } in h)
+      → GoesOn generation before held after (let h : HeldLists = record { groups = with_gens held.groups g (isolated p (gens_at held.groups g)); marks = set held.marks p false } in h)
   goes-on-out g here elsewhere gone =
       record {
         fresh = None;
@@ -214,11 +206,6 @@ module _ (generation : Generation) (before after : Pages) (held : HeldLists) (li
         marks = λ q. elim (eq_cases q p) [
           | inl same ↦ ap (is_marked (set held.marks p false)) same ∙ clear-here held.marks p ∙ sym (ap (λ b. is_held_in before q && b && is_marked held.marks q) (ap (is_held_in after) same ∙ gone) ∙ ap (λ b. b && is_marked held.marks q) (and_right (is_held_in before q) false refl))
           | inr other ↦ get_or-set_other held.marks p q false false other ∙ mark-stays (is_held_in before q) (is_held_in after q) (is_marked held.marks q) (lists.marked q) (λ h. others q other ∙ lists.marked q h)
-        ];
-        counts = length-set held.hits p 0;
-        hits = λ q. elim (eq_cases q p) [
-          | inl same ↦ ap (hits_at (set held.hits p 0)) same ∙ none-here held.hits p ∙ sym (ap (λ b. hits_kept generation (is_held_in before q) b (hits_at held.hits q)) (ap (is_held_in after) same ∙ gone))
-          | inr other ↦ get_or-set_other held.hits p q 0 0 other ∙ hits-stay generation (is_held_in before q) (is_held_in after q) (hits_at held.hits q) (others q other) (lists.counted q)
         ];
       }
     where
@@ -248,10 +235,10 @@ module _ (generation : Generation) (before after : Pages) (held : HeldLists) (li
           each-two (x ∷ xs) h k = (others x.page (λ e. true≢false (sym (eq-eqb x.page p e) ∙ k.0)) ∙ h.0, each-two xs h.1 k.1)
 
   -- a page came to a group's list
-  pub goes-on-in : (page : Page) → page_at after p ≡ Some page → is_held page ≡ true → is_held_in before p ≡ false → p < length held.hits
+  pub goes-on-in : (page : Page) → page_at after p ≡ Some page → is_held page ≡ true → is_held_in before p ≡ false
       → GoesOn generation before held after
-      (let h : HeldLists = record { groups = with_gens held.groups page.group (added p (kind_at page.content) (seq_in generation (kind_at page.content) (gens_at held.groups page.group)) (gens_at held.groups page.group)); marks = held.marks; hits = set held.hits p (hits_at_entry generation) } in h)
-  goes-on-in page there here absent within =
+      (let h : HeldLists = record { groups = with_gens held.groups page.group (added p (kind_at page.content) (seq_in generation (kind_at page.content) (gens_at held.groups page.group)) (gens_at held.groups page.group)); marks = held.marks } in h)
+  goes-on-in page there here absent =
       record {
         fresh = Some p;
         which = λ q. elim (eq_cases q p) [
@@ -261,14 +248,6 @@ module _ (generation : Generation) (before after : Pages) (held : HeldLists) (li
         groups = ap (with_page generation p (Some page)) (sym all) ∙ sym (ap (λ (o : Option Page). with_page generation p o (map (kept_gens after) held.groups)) there);
         size = refl;
         marks = λ q. mark-stays (is_held_in before q) (is_held_in after q) (is_marked held.marks q) (lists.marked q) (λ h. others q (differs q (lists.marked q h)) ∙ lists.marked q h);
-        counts = length-set held.hits p (hits_at_entry generation);
-        hits = λ q. elim (eq_cases q p) [
-          | inl same ↦ (
-              ap (hits_at (set held.hits p (hits_at_entry generation))) same ∙ get_or-set_same held.hits p (hits_at_entry generation) 0 within
-              ∙ sym (ap (λ b. hits_kept generation b (is_held_in after q) (hits_at held.hits q)) (ap (is_held_in before) same ∙ absent) ∙ ap (λ b. hits_kept generation false b (hits_at held.hits q)) (ap (is_held_in after) same ∙ ap (there_and is_held) there ∙ here))
-              )
-          | inr other ↦ get_or-set_other held.hits p q (hits_at_entry generation) 0 other ∙ hits-stay generation (is_held_in before q) (is_held_in after q) (hits_at held.hits q) (others q other) (lists.counted q)
-        ];
       }
     where
       differs : (q : ℕ) → is_held_in before q ≡ true → q ≢ p
@@ -321,15 +300,8 @@ module _ (generation next : Generation) (before between after : Pages) (xs ys zs
         groups = second.groups ∙ ap (λ (o : Option ℕ). with_fresh next after o (map (kept_gens after) ys.groups)) (no-number second.fresh none) ∙ ap (map (kept_gens after)) first.groups ∙ by_fresh first.fresh first.which;
         size = second.size ∙ first.size;
         marks = λ p. second.marks p ∙ ap (λ m. is_held_in between p && is_held_in after p && m) (first.marks p) ∙ both_stay (is_held_in before p) (is_held_in between p) (is_held_in after p) (is_marked xs.marks p) (less p);
-        counts = second.counts ∙ first.counts;
-        hits = λ p. second.hits p ∙ ap (hits_kept next (is_held_in between p) (is_held_in after p)) (first.hits p) ∙ both_kept (is_held_in before p) (is_held_in between p) (is_held_in after p) (hits_at xs.hits p) (less p);
       }
     where
-      both_kept : (a b c : Bool) (hits : ℕ) → (c ≡ true → b ≡ true) → hits_kept next b c (hits_kept generation a b hits) ≡ hits_kept generation a c hits
-      both_kept a b false hits h = refl
-      both_kept a true true hits h = refl
-      both_kept a false true hits h = absurd (true≢false (sym (h refl)))
-
       less : (p : ℕ) → is_held_in after p ≡ true → is_held_in between p ≡ true
       less p h = sym (ap (there_and is_held) (stays p h)) ∙ h
 

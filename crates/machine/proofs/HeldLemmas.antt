@@ -12,8 +12,8 @@ use Rattle.machine.specs.Pages.{Content, Memory, OfFile, Page, Pages, page_at, i
 use Rattle.machine.specs.Generations.{Listed, Row, Gens, new_gens, of_kind, row_of, has_page, is_listed, entered, added, gens_at, with_gens, IsRow, IsGens}
 use Rattle.machine.specs.Aging.{is_marked}
 use Rattle.machine.specs.State.{Opening}
-use Rattle.machine.specs.Lists.{HeldLists, first_order, kind_at, is_held_of, ListsHeld, AreGenerations, is_fresh, kept_row, kept_gens, Generation, Youngest, SecondYoungest, ByType, seq_in, with_page, with_fresh, hits_at, hits_kept, GoesOn, with_group}
-use Rattle.page_lists.proofs.ListedLemmas.{each-filter, each-weaker, each-has, has-entered, has-filter, none-filter, rising-filter, distinct-filter, distinct-front, distinct-back, distinct-apart, distinct-append, each-entered, rising-entered, distinct-entered}
+use Rattle.machine.specs.Lists.{HeldLists, first_order, kind_at, is_held_of, ListsHeld, AreGenerations, is_fresh, kept_row, kept_gens, Generation, Youngest, SecondYoungest, ByType, seq_in, with_page, with_fresh, GoesOn, with_group}
+use Rattle.machine.proofs.ListedLemmas.{each-filter, each-weaker, each-has, has-entered, has-filter, none-filter, rising-filter, distinct-filter, distinct-front, distinct-back, distinct-apart, distinct-append, each-entered, rising-entered, distinct-entered}
 
 -- a page that is held before and after keeps its group and its type
 pub record SamePlaces (before after : Pages) : Type 0 where
@@ -167,17 +167,9 @@ pub held-go_on : (generation : Generation) (before after : Pages) (held held' : 
 held-go_on generation before after held held' goes were places groups = record {
   rows = λ g kind p. ap (λ (xs : List Gens). has_page p (row_of kind (gens_at xs g)).pages) goes.groups ∙ rows-on before after held were places groups generation goes.fresh goes.which g kind p;
   marked = λ p h. (let both = and_parts (is_held_in before p && is_held_in after p) (is_marked held.marks p) (sym (goes.marks p) ∙ h) in (and_parts (is_held_in before p) (is_held_in after p) both.0).1);
-  counted = λ p gone. goes.hits p ∙ ap (λ (b : Bool). hits_kept generation (is_held_in before p) b (hits_at held.hits p)) gone;
 }
 
 -- ---- nothing changes
-
--- a count stays where its page stays, held or not
-pub hits-stay : (generation : Generation) (a b : Bool) (hits : ℕ) → b ≡ a → (a ≡ false → hits ≡ 0) → hits ≡ hits_kept generation a b hits
-hits-stay generation true true hits same none = refl
-hits-stay generation false false hits same none = none refl
-hits-stay generation true false hits same none = absurd (true≢false (sym same))
-hits-stay generation false true hits same none = absurd (true≢false same)
 
 filter-all : (test : Listed → Bool) (xs : List Listed) → AllByRecursion (λ l. test l ≡ true) xs → filter test xs ≡ xs
 filter-all test [] h = refl
@@ -203,8 +195,6 @@ goes-still generation pages pages' held were same = subst (λ (after : Pages). G
       ∙ ap (λ (xs : List Listed). let x : Gens = record { max_seq = (gens_at held.groups g).max_seq; anon = (gens_at held.groups g).anon; file = record { min_seq = (gens_at held.groups g).file.min_seq; pages = xs } } in x) (row-still pages held were g File)));
   size = refl;
   marks = λ p. by_mark p (is_marked held.marks p) refl;
-  counts = refl;
-  hits = λ p. hits-stay generation (is_held_in pages p) (is_held_in pages p) (hits_at held.hits p) refl (were.counted p);
 })
   where
     none : (b : Bool) → false ≡ (b && not b)
@@ -231,7 +221,6 @@ pub held-group : (pages : Pages) (held : HeldLists) → ListsHeld pages held →
 held-group pages held were = record {
   rows = λ g kind p. ap (λ (x : Gens). has_page p (row_of kind x).pages) (gens_at-more held.groups g) ∙ were.rows g kind p;
   marked = were.marked;
-  counted = were.counted;
 }
 
 pub generations-group : (held : HeldLists) → AreGenerations held → AreGenerations (with_group held)
@@ -404,7 +393,6 @@ pub first-held : (opening : Opening) → ListsHeld [] (first_order opening).held
 first-held opening = record {
   rows = λ g kind p. ap (λ (x : Gens). has_page p (row_of kind x).pages) (first-at g) ∙ none kind p;
   marked = λ p h. absurd (true≢false (sym h ∙ unmarked (opening.frames + opening.swap) p));
-  counted = λ p gone. unhit (opening.frames + opening.swap) p;
 }
   where
     none : (kind : Kind) (p : ℕ) → has_page p (row_of kind new_gens).pages ≡ false
@@ -415,11 +403,6 @@ first-held opening = record {
     unmarked zero p = refl
     unmarked (suc n) zero = refl
     unmarked (suc n) (suc p) = unmarked n p
-
-    unhit : (n p : ℕ) → hits_at (replicate n 0) p ≡ 0
-    unhit zero p = refl
-    unhit (suc n) zero = refl
-    unhit (suc n) (suc p) = unhit n p
 
 pub first-generations : (opening : Opening) → AreGenerations (first_order opening).held
 first-generations opening g = subst IsGens (sym (first-at g)) new-sound

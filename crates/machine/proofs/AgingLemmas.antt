@@ -4,7 +4,7 @@ use Rattle.std.specs.List.{AllByRecursion}
 use Rattle.std.proofs.lemmas.Bool.{eqb-true}
 use Rattle.machine.specs.Generations.{Listed, Row, at_seq, merged}
 use Rattle.machine.specs.Aging.{has_mark, is_marked, cleared, at_most_three}
-use Rattle.page_lists.proofs.ListedLemmas.{each-map}
+use Rattle.machine.proofs.ListedLemmas.{each-map}
 
 pub each-marked : (P : Listed → Type 0) (seq : ℕ) (m : List Bool) → ((l : Listed) → P l → has_mark m l ≡ true → P (at_seq seq l)) → (xs : List Listed) → AllByRecursion P xs → AllByRecursion P (map (at_seq seq) (filter (has_mark m) xs))
 each-marked P seq m step [] h = tt

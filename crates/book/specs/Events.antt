@@ -10,10 +10,10 @@ use Rattle.pages.specs.declared.end.End.{End}
 use Rattle.pages.specs.declared.end.End.TheVariants.{InFrame, OnBlock}
 use Rattle.machine.specs.declared.record.Direction.{Direction}
 use Rattle.machine.specs.declared.record.Direction.TheVariants.{In, Out}
-use Rattle.book_events.specs.declared.event.Event.{Event}
-use Rattle.book_events.specs.declared.event.Event.TheVariants as event
-use Rattle.book_events.specs.declared.event.Reply.{Reply}
-use Rattle.book_events.specs.declared.event.Reply.TheVariants as reply
+use Rattle.book.specs.declared.event.Event.{Event}
+use Rattle.book.specs.declared.event.Event.TheVariants as event
+use Rattle.book.specs.declared.event.Reply.{Reply}
+use Rattle.book.specs.declared.event.Reply.TheVariants as reply
 
 -- what stands in a history of an event; an arrival stands with the bytes that were read. (Excludes a history of another event than the one that was asked.)
 abbrev pub event_of : Event → Plain_event

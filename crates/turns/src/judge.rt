@@ -4,11 +4,12 @@
 ghost use Rattle.std.specs.Prelude.{◌≡◌, ℕ, ◌<◌, ◌≤◌, false, IfOk, OnOk, OnErr, map, option_map};
 ghost use Rattle.book.specs.Passes.{find_of, keeping};
 ghost use Rattle.turns.specs.Turns.{shell_paths, paths_of, judged, task_judged, shell_judged, daemon_judged, with_group, with_file, reads_file, reclaims, writes_file};
-ghost use Rattle.judging.specs.Finds.{looking};
+ghost use Rattle.turns.specs.Finds.{looking};
 ghost use Rattle.turns.specs.Tickets.{holds, OwnStage};
 ghost use Rattle.machine.specs.Tree.{find_group};
 ghost use Rattle.machine.specs.Control.{file_named};
 
+use crate::turn::{Access, Stage};
 use book::{Book, Pass};
 use control_files::{file_named, has_file, parse_amount, parse_flag};
 use machine::amount::Amount;
@@ -20,7 +21,6 @@ use machine::record::Guard;
 use machine::refusal::Refusal;
 use machine::text::Text;
 use std::alloc::{AllocError, Global};
-use turns::turn::{Access, Stage};
 
 /// The result of a command's first turn. All its paths are looked up, in order, before anything of it is judged, and
 /// the pass keeps them. A command that continues has no ticket in hand yet. It fails only if memory is refused for what

@@ -14,7 +14,7 @@ use Rattle.machine.proofs.TreeLemmas.{eq_cases}
 use Rattle.machine.proofs.RemovedLemmas.{regrouped-test}
 use Rattle.machine.specs.Generations.{Listed, Row, Gens, new_gens, of_kind, row_of, has_page, is_listed, at_seq, taken_in, taken_over, emptied, handed_over, gens_at, with_gens, IsRising, AreDistinct, IsRow, IsGens}
 use Rattle.machine.proofs.Values.{unlike}
-use Rattle.page_lists.proofs.ListedLemmas.{each-append, each-filter, each-map, each-weaker, each-test, has_page-append, has-split, has-renumbered, has-filter, none-filter, or-behind, opposite-numbers, rising-filter, rising-append, distinct-filter, distinct-append, distinct-split, distinct-front, distinct-back, distinct-apart}
+use Rattle.machine.proofs.ListedLemmas.{each-append, each-filter, each-map, each-weaker, each-test, has_page-append, has-split, has-renumbered, has-filter, none-filter, or-behind, opposite-numbers, rising-filter, rising-append, distinct-filter, distinct-append, distinct-split, distinct-front, distinct-back, distinct-apart}
 
 -- ---- one row
 
@@ -162,7 +162,7 @@ of_none false k = refl
 module _ (pages pages' : Pages) (held : HeldLists) (g parent : ℕ) (apart : parent ≢ g) (here : g < length held.groups) (there : parent < length held.groups) (were : ListsHeld pages held)
     (changes : (p : ℕ) → page_at pages' p ≡ option_map (regrouped g parent) (page_at pages p)) where
   abbrev now : HeldLists
-  now = record { groups = handed_over g parent held.groups; marks = held.marks; hits = held.hits }
+  now = record { groups = handed_over g parent held.groups; marks = held.marks }
 
   abbrev of_kind_page : Kind → Page → Bool
   of_kind_page kind page = of_kind kind (is_anon page.content) (not (is_anon page.content))
@@ -227,10 +227,7 @@ module _ (pages pages' : Pages) (held : HeldLists) (g parent : ℕ) (apart : par
 
   -- each held page stands on the lists of its group still
   pub held-handed : ListsHeld pages' now
-  held-handed = record { rows = rows; marked = λ p is. as_held p ∙ were.marked p is; counted = λ p gone. were.counted p (sym (as_held p) ∙ gone) }
-    where
-      as_held : (p : ℕ) → there_and is_held (page_at pages' p) ≡ there_and is_held (page_at pages p)
-      as_held p = ap (there_and is_held) (changes p) ∙ regrouped-test is_held g parent (λ page. refl) (page_at pages p)
+  held-handed = record { rows = rows; marked = λ p is. ap (there_and is_held) (changes p) ∙ regrouped-test is_held g parent (λ page. refl) (page_at pages p) ∙ were.marked p is }
 
   -- a page on a group's lists is of the group
   listed-of : (h q : ℕ) → is_listed (gens_at held.groups h) q ≡ true → there_and (λ (page : Page). page.group == h) (page_at pages q) ≡ true

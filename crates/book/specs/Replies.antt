@@ -5,11 +5,11 @@ use Rattle.machine.specs.Access.{page_size}
 use Rattle.machine.specs.History.{Spot, at_first, last, Honest}
 use Rattle.machine.specs.Call.{Past}
 use Rattle.pages.specs.Tickets.{TicketOf}
-use Rattle.book_events.specs.Spots.{offset_of, holder, IsThere}
-use Rattle.book_events.specs.declared.event.Event.{Event}
-use Rattle.book_events.specs.declared.event.Event.TheVariants as event
-use Rattle.book_events.specs.declared.event.Reply.{Reply}
-use Rattle.book_events.specs.declared.event.Reply.TheVariants as reply
+use Rattle.book.specs.Spots.{offset_of, holder, IsThere}
+use Rattle.book.specs.declared.event.Event.{Event}
+use Rattle.book.specs.declared.event.Event.TheVariants as event
+use Rattle.book.specs.declared.event.Reply.{Reply}
+use Rattle.book.specs.declared.event.Reply.TheVariants as reply
 
 -- ---- which replies
 

@@ -1,3 +1,0 @@
-pub mod Spots
-pub mod Events
-pub mod Replies
