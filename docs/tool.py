@@ -37,7 +37,7 @@ SPECIFICATIONS = """
     machine/specs/History.antt machine/specs/FirstBytes.antt machine/specs/Audit.antt machine/specs/Transfers.antt machine/specs/Call.antt
     machine/specs/Legal.antt machine/specs/Events.antt machine/specs/Control.antt machine/specs/Printed.antt
     block_store/specs/Device.antt pages/specs/Tickets.antt
-    book/specs/Events.antt book/specs/Spots.antt book/specs/Replies.antt book/specs/Passes.antt
+    book_events/specs/Events.antt book_events/specs/Spots.antt book_events/specs/Replies.antt book/specs/Passes.antt
     turns/specs/Turns.antt driver/specs/Schedule.antt driver/specs/Sinks.antt driver/specs/Traced.antt
     turns/specs/Tickets.antt driver/specs/Hands.antt marks/specs/Logs.antt
     scripts/specs/Words.antt scripts/specs/Forms.antt scripts/specs/Meaning.antt scripts/specs/Header.antt scripts/specs/Context.antt
@@ -47,7 +47,7 @@ SPECIFICATIONS = """
     shown_groups/specs/Shown.antt thread_runs/specs/Threads.antt thread_runs/specs/Actors.antt
     expectations/specs/Expected.antt
     book/specs/Looks.antt charts/specs/Watched.antt charts/specs/Phased.antt charts/specs/Listed.antt printer/specs/Paths.antt subcommands/specs/Charted.antt
-    embedding/specs/Buffers.antt embedding/specs/Calls.antt
+    call_buffers/specs/Buffers.antt call_buffers/specs/Calls.antt embedding/specs/Asked.antt
     laws/specs/Laws.antt""".split()
 
 
@@ -293,7 +293,7 @@ def print_chain():
 
 # How the picture of the crates is drawn, in pixels. Crates that are tests are left out.
 BOX, GAP, ROW, MARGIN = 112, 12, 58, 16
-TESTS = {"cases", "acceptance", "streams", "slow_device", "shortages", "leaves", "callers", "overlaps", "computed", "computed_turns"}
+TESTS = {"cases", "acceptance", "streams", "slow_device", "shortages", "leaves", "callers", "computed", "computed_turns"}
 
 
 def layers():
@@ -866,7 +866,7 @@ def write_counts(option=None):
 
 
 # The crates whose strings a user reads.
-TELLING = ("charts", "command_line", "embedding", "expectations", "explain", "machine", "memcgrun", "printer", "scenarios", "script_faults", "scripts", "subcommands", "thread_runs")
+TELLING = ("charts", "command_line", "embedded_exploration", "embedding", "expectations", "explain", "machine", "memcgrun", "printer", "scenarios", "script_faults", "scripts", "subcommands", "thread_runs")
 
 
 def messages():

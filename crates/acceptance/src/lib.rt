@@ -3,6 +3,8 @@
 //! shares of small trees, which are compared with their rule. A script that can be written down is a case of the crate
 //! `cases`: add it there.
 //!
+//! `words` and `faulty_words` test what command lines ask for, and what is said of faulty ones.
+//!
 //! What a test expects comes from the rules, never from a run.
 #![tactic(auto)]
 
@@ -14,6 +16,8 @@ mod drawn;
 mod explanations;
 #[cfg(test)]
 mod faulty_scripts;
+#[cfg(test)]
+mod faulty_words;
 #[cfg(test)]
 mod generations;
 #[cfg(test)]
@@ -28,3 +32,5 @@ mod shares;
 mod sharing;
 #[cfg(test)]
 mod sizes;
+#[cfg(test)]
+mod words;

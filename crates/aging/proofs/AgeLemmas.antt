@@ -7,9 +7,9 @@ use Rattle.machine.specs.Generations.{Listed, Row, Gens, at_seq, has_page, on_ro
 use Rattle.machine.specs.Aging.{is_marked, cleared, at_most_three, promoted, aged}
 use Rattle.lru_gen.specs.Gens.{GensOf, gens_of, sets}
 use Rattle.aging.specs.Groups.{seen_at}
-use Rattle.machine.proofs.ListedLemmas.{each-weaker, each-has, none-in}
+use Rattle.page_lists.proofs.ListedLemmas.{each-weaker, each-has, none-in}
 use Rattle.lru_gen.proofs.KindLemmas.{anon_is_no_file, sound_apart}
-use Rattle.machine.proofs.AgingLemmas.{each-three}
+use Rattle.page_lists.proofs.AgingLemmas.{each-three}
 use Rattle.aging.proofs.GroupLemmas.{change, only-then, sets-by}
 use Rattle.aging.proofs.PromoteLemmas.{cleared-append, unmarked_of, marked_of}
 

@@ -6,7 +6,7 @@ use Rattle.machine.specs.Generations.{Gens, new_gens, gens_at, with_gens, has_pa
 use Rattle.lru_gen.specs.Gens.{GensOf, gens_of, sets}
 use Rattle.aging.specs.Groups.{ChangesOnly}
 use Rattle.lru_gen.proofs.SoundLemmas.{group_has}
-use Rattle.machine.proofs.ListedLemmas.{has_page-without}
+use Rattle.page_lists.proofs.ListedLemmas.{has_page-without}
 
 -- ---- the lists of one group
 

@@ -10,8 +10,8 @@ use Rattle.machine.specs.declared.record.Kind.TheVariants.{Anon, File}
 use Rattle.machine.specs.Generations.{Listed, Gens, at_seq, row_of, on_row, added, isolated, entered, without, has_page, after_in, IsGens, AreDistinct}
 use Rattle.machine.specs.Aging.{has_mark, is_marked, cleared, promoted}
 use Rattle.machine.specs.Eviction.{front_run, behind_run}
-use Rattle.machine.proofs.ListedLemmas.{each-append, each-front, each-back, none-in, without-all, top-each, distinct-middle, entered-tail}
-use Rattle.machine.proofs.AgingLemmas.{clear-here, cleared-keeps}
+use Rattle.page_lists.proofs.ListedLemmas.{each-append, each-front, each-back, none-in, without-all, top-each, distinct-middle, entered-tail}
+use Rattle.page_lists.proofs.AgingLemmas.{clear-here, cleared-keeps}
 
 abbrev pub with_pages : Kind → List Listed → Gens → Gens
 with_pages kind pages g = on_row kind (λ row. record { min_seq = row.min_seq; pages = pages }) g

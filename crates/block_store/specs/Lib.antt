@@ -1,3 +1,4 @@
+pub mod Blocks
 pub mod Device
 pub mod Memory
 pub mod Slots

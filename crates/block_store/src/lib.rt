@@ -10,6 +10,7 @@ pub use memory::MemDevice;
 pub use shared::{Locked, SharedDevice};
 pub use slots::{Slot, Slots};
 
+mod blocks;
 mod device;
 mod memory;
 mod shared;

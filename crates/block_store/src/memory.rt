@@ -4,6 +4,7 @@ ghost use Rattle.std.specs.Prelude.{◌≡◌, ℕ, ◌+◌, ◌<◌, ◌≤◌,
 ghost use Rattle.block_store.specs.Device.{bytes_on, counted, is_listed, new_disk, WritesBlock};
 ghost use Rattle.block_store.specs.Memory.{faults_left};
 
+use crate::blocks::Blocks;
 use crate::device::{BLOCK_BYTES, BlockDevice, Fault};
 use std::alloc::{AllocError, Global};
 use std::marker::Model;
@@ -14,7 +15,7 @@ const SPOILED: u8 = 255;
 /// A block device in memory. Its maker lists which calls fail.
 #[derive(Drop)]
 pub struct MemDevice {
-    blocks: Vec<[u8; BLOCK_BYTES]>,
+    blocks: Blocks,
     /// How many reads were made, including failed ones. It stays at the largest `u64` once it is
     /// reached.
     reads: u64,
@@ -28,20 +29,20 @@ pub struct MemDevice {
 }
 
 impl Model for MemDevice {
-    ghost use Rattle.std.specs.Prelude.{◌+◌, Some, length, vec_len};
+    ghost use Rattle.std.specs.Prelude.{◌+◌, Some, length};
     ghost use Rattle.block_store.specs.Device.{Disk};
     ghost use Rattle.block_store.specs.Memory.{IsMemory};
 
     ghost Value = { Disk };
 
     ghost view = { λ d. record {
-      contents = d.blocks.items;
+      contents = d.blocks;
       failures = d.failures;
       fault_limit = length d.read_faults.items + length d.write_faults.items;
       plan = Some (record { reads = d.reads; writes = d.writes; read_faults = d.read_faults.items; write_faults = d.write_faults.items });
     } };
 
-    ghost invariant = { λ d. IsMemory (vec_len d.blocks) d.failures d.reads d.writes d.read_faults.items d.write_faults.items };
+    ghost invariant = { λ d. IsMemory d.failures d.reads d.writes d.read_faults.items d.write_faults.items };
 }
 
 impl MemDevice {
@@ -58,7 +59,7 @@ impl MemDevice {
     ) -> Result<MemDevice, AllocError>
         ensures { IfOk result (λ d. d ≡ new_disk blocks read_faults.now write_faults.now) }
     {
-        let blocks = vec![in alloc; [0; BLOCK_BYTES]; blocks as usize]?;
+        let blocks = Blocks::new(alloc, blocks)?;
         let read_faults = read_faults.to_vec(alloc)?;
         let write_faults = write_faults.to_vec(alloc)?;
         Ok(MemDevice {
@@ -76,7 +77,7 @@ impl BlockDevice for MemDevice {
     ghost disk = { λ d. d };
 
     fn blocks(&self) -> u32 {
-        self.blocks.len() as u32
+        self.blocks.count()
     }
 
     fn read(&mut self, block: u32, to: &mut [u8; BLOCK_BYTES]) -> Result<(), Fault> {
@@ -84,7 +85,7 @@ impl BlockDevice for MemDevice {
             self.failures += 1;
             return Err(Fault);
         }
-        *to = self.blocks[block as usize];
+        self.blocks.read(block, to);
         Ok(())
     }
 
@@ -97,11 +98,11 @@ impl BlockDevice for MemDevice {
         ensures spoiled { OnErr result (bytes_on self.new.contents block ≡ replicate BLOCK_BYTES 255) }
     {
         if strikes(&mut self.writes, &self.write_faults) {
-            self.blocks[block as usize] = [SPOILED; BLOCK_BYTES];
+            self.blocks.write(block, &[SPOILED; BLOCK_BYTES]);
             self.failures += 1;
             return Err(Fault);
         }
-        self.blocks[block as usize] = *from;
+        self.blocks.write(block, from);
         Ok(())
     }
 

@@ -17,7 +17,7 @@ use Rattle.machine.specs.Pages.{in_transfer}
 use Rattle.pages.specs.Tickets.{TicketOf}
 use Rattle.pages.specs.declared.end.End.{End}
 use Rattle.pages.specs.declared.end.End.TheVariants.{InFrame, OnBlock}
-use Rattle.book.specs.Events.{ended}
+use Rattle.book_events.specs.Events.{ended}
 use Rattle.machine.specs.State.{Opening, State, page_numbers}
 use Rattle.machine.specs.Slots.{at}
 use Rattle.machine.specs.Refusals.{refusal}
@@ -86,7 +86,7 @@ few_of b is limit worker =
     let within = is.within in
     omega (arith, counted, few, all, within, limit)
 
--- all kills together are at most as many as tasks began, and each entry counts at most two events beside, so no key is counted more often than 64 bits hold
+-- all kills together are at most as many as tasks began, and each entry counts at most three events beside, so no key is counted more often than 64 bits hold
 pub few-counted : (b : Inside) → IsBook b → b.state.tables.opening.trace_limit ≤ 1048576 → AreFew b.state.tables
 few-counted b is limit k =
     let most = few-total b.state.tables.opening (history_of b) b.state.tables is.told.legal b.state.tables.tree 0 k in

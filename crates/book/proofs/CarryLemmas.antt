@@ -34,13 +34,13 @@ use Rattle.pages.specs.declared.source.Source.{Source}
 use Rattle.pages.specs.declared.source.Source.TheVariants as source
 use Rattle.pages.specs.Transfers.{ReadsFrom}
 use Rattle.page_state.specs.Changes.{files_of, counts_event, counts_events, MakesPage, BeginsReadIn, BeginsRead, BeginsWriteOut, DropsClean, EndsTask, EndsTasks, sets_in}
-use Rattle.book.specs.declared.event.Reply.{Reply as Given}
-use Rattle.book.specs.declared.event.Reply.TheVariants as given
+use Rattle.book_events.specs.declared.event.Reply.{Reply as Given}
+use Rattle.book_events.specs.declared.event.Reply.TheVariants as given
 use Rattle.book.specs.declared.decision.Meeting.{Meeting}
 use Rattle.book.specs.declared.decision.Meeting.TheVariants as meeting
 use Rattle.book.specs.declared.decision.Decision.TheVariants as decision
-use Rattle.book.specs.Events.{reply_of}
-use Rattle.book.specs.Replies.{IsAccessReply, IsReliefReply, IsReclaimReply}
+use Rattle.book_events.specs.Events.{reply_of}
+use Rattle.book_events.specs.Replies.{IsAccessReply, IsReliefReply, IsReclaimReply}
 use Rattle.book.specs.Effects.{knows}
 use Rattle.book.specs.MakesStep.{MakesStep, GivesTicket, RepliesTo}
 use Rattle.book.proofs.EndLemmas.{IsStuck, makes_step-kill, makes_step-kill_all}
@@ -236,7 +236,7 @@ KillsOne old new t limit =
 abbrev KillsAll : StateOf → StateOf → ℕ → ℕ → ℕ → Type 0
 KillsAll old new victim h limit =
     IsVictim old.tables.tree old.tables.tasks old.tables.page_tables limit (Some victim) × (kill_group_of old.tables.tree old.tables.flags old.tables.tasks limit victim ≡ Some h)
-    × EndsTasks (with_counted old (with_events old.tables.counted (counts_of_group_kill old.tables.tree old.tables.tasks limit h))) new (is_candidate old.tables.tree old.tables.tasks h) Killed
+    × EndsTasks (with_counted old (with_events old.tables.counted (counts_of_group_kill old.tables.opening.placement old.tables.tree old.tables.tasks limit victim h))) new (is_candidate old.tables.tree old.tables.tasks h) Killed
 
 -- a task is killed, alone: two events are counted, and then it ends
 pub carries-kill : (old first second new : StateOf) (limit : GroupId) (t : TaskId) (g : ℕ) → first ≡ counts_event old limit.0 key.Oom → second ≡ counts_event first g key.OomKill → group_of_task old.tables.tasks t.0 ≡ g
@@ -251,13 +251,13 @@ carries-kill old first second new limit t g oom kills home ends what is =
 
 -- a group is killed: all of its events are counted, and then all of its tasks end
 pub carries-kill_all : (old counts new : StateOf) (limit : GroupId) (victim : TaskId) (h : GroupId) (tasks : ℕ) → tasks ≡ killed_with old.tables.tree old.tables.tasks h.0
-    → counts ≡ counts_events old (counts_of_group_kill old.tables.tree old.tables.tasks limit.0 h.0) → EndsTasks counts new (is_candidate counts.tables.tree counts.tables.tasks h.0) Killed
+    → counts ≡ counts_events old (counts_of_group_kill old.tables.opening.placement old.tables.tree old.tables.tasks limit.0 victim.0 h.0) → EndsTasks counts new (is_candidate counts.tables.tree counts.tables.tasks h.0) Killed
     → Carries old (decision.KillAll limit victim h) (given.KilledAll victim h tasks) new
 carries-kill_all old counts new limit victim h tasks many counted ends what is =
     carries-killing old new limit (given.KilledAll victim h tasks) (KillsAll old new victim.0 h.0) is.sound.1 (is.sound.2, is.sound.3, ended)
     (λ why stuck killing. makes_step-kill_all old new why victim.0 h.0 tasks stuck killing.0 killing.1 many killing.2) tt tt what is.fits
   where
-    ended : EndsTasks (with_counted old (with_events old.tables.counted (counts_of_group_kill old.tables.tree old.tables.tasks limit.0 h.0))) new (is_candidate old.tables.tree old.tables.tasks h.0) Killed
+    ended : EndsTasks (with_counted old (with_events old.tables.counted (counts_of_group_kill old.tables.opening.placement old.tables.tree old.tables.tasks limit.0 victim.0 h.0))) new (is_candidate old.tables.tree old.tables.tasks h.0) Killed
     ended = subst (λ (s : StateOf). EndsTasks s new (is_candidate s.tables.tree s.tables.tasks h.0) Killed) counted ends
 
 -- ---- tasks and groups

@@ -25,7 +25,7 @@ use Rattle.machine.specs.History.{Spot, InTask, InFile}
 use Rattle.machine.proofs.Values.{unlike}
 use Rattle.page_state.specs.States.{StateOf}
 use Rattle.book.specs.Decisions.{with_counted}
-use Rattle.book.specs.Spots.{IsThere}
+use Rattle.book_events.specs.Spots.{IsThere}
 use Rattle.book.specs.Effects.{byte_at_spot, KnowsSpot, WasByte, ReadsByte}
 use Rattle.page_state.specs.Changes.{EndsTask, EndsTasks}
 use Rattle.page_state.proofs.DropLemmas.{moving_alike}
@@ -96,7 +96,7 @@ makes_step-kill old new why t stuck victim alone ends =
 -- all events are counted, and then all tasks of the group end
 pub makes_step-kill_all : (old new : StateOf) (why : Cause) (victim h tasks : ℕ) → IsStuck old.tables why → IsVictim old.tables.tree old.tables.tasks old.tables.page_tables (target_of why) (Some victim)
     → kill_group_of old.tables.tree old.tables.flags old.tables.tasks (target_of why) victim ≡ Some h → tasks ≡ killed_with old.tables.tree old.tables.tasks h
-    → EndsTasks (with_counted old (with_events old.tables.counted (counts_of_group_kill old.tables.tree old.tables.tasks (target_of why) h))) new (is_candidate old.tables.tree old.tables.tasks h) Killed
+    → EndsTasks (with_counted old (with_events old.tables.counted (counts_of_group_kill old.tables.opening.placement old.tables.tree old.tables.tasks (target_of why) victim h))) new (is_candidate old.tables.tree old.tables.tasks h) Killed
     → MakesStep old (event.Relieve why) (reply.KilledAll (record { 0 = victim }) (record { 0 = h }) tasks) new
 makes_step-kill_all old new why victim h tasks stuck is_victim group many ends =
     makes_step-killing old new why _ _ (reply.KilledAll (record { 0 = victim }) (record { 0 = h }) tasks) stuck (record { says = λ spot. refl; given = refl }) ends (λ ended. (is_victim, group, many, ended))

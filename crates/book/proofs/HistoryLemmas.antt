@@ -38,7 +38,7 @@ use Rattle.legal.proofs.SharedLemmas.{FetchedSo, legal-fetched}
 use Rattle.pages.specs.PagesOf.{labelled, moving, IsInTransfer, AreInFlight}
 use Rattle.pages.specs.declared.flight.Flight.{Flight}
 use Rattle.page_state.specs.States.{StateOf, byte_at}
-use Rattle.book.specs.Spots.{offset_of, holder, IsThere}
+use Rattle.book_events.specs.Spots.{offset_of, holder, IsThere}
 use Rattle.book.specs.Effects.{byte_at_spot, knows, KnowsSpot, ReadsByte, Arrives, IsSaid}
 use Rattle.book.specs.MakesStep.{MakesStep, noted, noted_at}
 use Rattle.book.specs.Told.{taker_of, IsHistory}

@@ -23,7 +23,7 @@ use Rattle.machine.specs.declared.event.Op.{Op}
 use Rattle.machine.specs.Access as plain
 use Rattle.machine.specs.Access.{page_size, is_place, is_shared_write, meets, charges}
 use Rattle.machine.specs.History.{spot_of}
-use Rattle.book.specs.Spots.{holder}
+use Rattle.book_events.specs.Spots.{holder}
 use Rattle.page_state.specs.Mapped.{AreMapped}
 use Rattle.page_state.proofs.MappedLemmas.{mapped_there}
 use Rattle.book.specs.declared.decision.PageFault.{PageFault}

@@ -13,7 +13,7 @@ use Rattle.machine.specs.declared.event.Cause.TheVariants as cause
 use Rattle.machine.specs.declared.event.Event.TheVariants as event
 use Rattle.machine.proofs.Values.{unlike}
 use Rattle.machine.proofs.TreeLemmas.{eq_cases, under_at-None}
-use Rattle.machine.proofs.KillGroupLemmas.{candidate-parts, IsHighest, above_parent, kill_group-highest}
+use Rattle.oom.proofs.KillGroupLemmas.{candidate-parts, IsHighest, above_parent, kill_group-highest}
 use Rattle.group_tree.specs.Groups.{IsGroupTree}
 use Rattle.oom.specs.declared.Chosen.{Chosen}
 use Rattle.oom.specs.Chosen.{pair_of}

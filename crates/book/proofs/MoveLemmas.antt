@@ -17,7 +17,7 @@ use Rattle.machine.specs.Access.{Meeting, charges, is_fetch}
 use Rattle.machine.specs.Call.{need}
 use Rattle.machine.specs.declared.record.EventCounts.{EventCounts}
 use Rattle.machine.specs.Reclaim.{stands, target_of, goal_of, goal_in, is_takeable, has_takeable, counted_at_take}
-use Rattle.machine.proofs.TakeableLemmas.{next-takeable}
+use Rattle.page_lists.proofs.TakeableLemmas.{next-takeable}
 use Rattle.machine.specs.Lists.{Order, Youngest, entry_after, TakesNext, Orders}
 use Rattle.machine.specs.Step.{Step, MeetStep, StartsFetch, StartsLeave, Drops, LeavesBy, Takes, EndsTransfer, or_gone, in_frame, on_block, on_block_of}
 use Rattle.machine.specs.History.{Spot, InTask, InFile, Nothing, says, ticket_given}
@@ -31,14 +31,14 @@ use Rattle.pages.specs.declared.flight.Flight.{Flight}
 use Rattle.machine.specs.declared.record.Direction.{Direction}
 use Rattle.machine.specs.declared.record.Direction.TheVariants.{In, Out}
 use Rattle.page_state.specs.States.{StateOf, byte_shown}
-use Rattle.book.specs.Spots.{offset_of, holder}
+use Rattle.book_events.specs.Spots.{offset_of, holder}
 use Rattle.book.specs.Effects.{byte_at_spot, is_in_memory, is_known, knows, KnowsSpot, ReadsByte, Arrives, Follows, ChangesBytes, KeepsFlights}
 use Rattle.book.specs.MakesStep.{AgesByThree, MakesStep, is_refused}
 use Rattle.pages.specs.Tickets.{TicketOf}
 use Rattle.pages.specs.declared.end.End.{End}
 use Rattle.pages.specs.declared.end.End.TheVariants.{InFrame, OnBlock}
 use Rattle.page_state.specs.Changes.{BeginsReadIn, IsWrittenTo, BeginsWriteOut, DropsClean, ended_as, EndsTransfer as Settles, HasRoom}
-use Rattle.book.specs.Events.{ended}
+use Rattle.book_events.specs.Events.{ended}
 use Rattle.book.specs.Decisions.{with_counted, AsksPage, IsFault, met_by, HasRoomFor}
 use Rattle.pages.proofs.TableLemmas.{any-some}
 use Rattle.book.proofs.FlightLemmas.{in_transfer-changes}

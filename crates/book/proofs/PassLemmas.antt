@@ -15,7 +15,7 @@ use Rattle.machine.specs.declared.reply.Reply.TheVariants as reply
 use Rattle.machine.specs.History.{entries_by}
 use Rattle.machine.specs.Refusals.{refusal}
 use Rattle.machine.specs.Call.{Past, Caller, knows_pass, grows, is_trace_full, leaves_entry, entry_of, Refuses, Answers, Answered, JudgedBy, Called}
-use Rattle.book.specs.declared.event.Reply.TheVariants as given
+use Rattle.book_events.specs.declared.event.Reply.TheVariants as given
 use Rattle.book.specs.declared.kept.Kept.{Kept}
 use Rattle.book.specs.declared.kept.Asked.TheVariants.{Whole}
 use Rattle.book.specs.MakesStep.{IsAsked, RepliesTo}

@@ -14,7 +14,7 @@ use Rattle.machine.proofs.RemovedLemmas.{regrouped-test, count-alike}
 use Rattle.machine.proofs.FileLemmas.{file_page-same}
 use Rattle.page_state.specs.States.{StateOf}
 use Rattle.page_state.specs.Changes.{RemovesGroup}
-use Rattle.book.specs.Spots.{offset_of}
+use Rattle.book_events.specs.Spots.{offset_of}
 use Rattle.book.specs.Effects.{is_in_memory}
 use Rattle.book.specs.MakesStep.{AgesByThree, MakesStep}
 use Rattle.book.proofs.StepLemmas.{there-same, holder-same, stays-was, flights-kept}

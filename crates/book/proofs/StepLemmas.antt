@@ -33,11 +33,11 @@ use Rattle.machine.specs.History.{Spot, InTask, InFile, spot_of, Says, Nothing, 
 use Rattle.pages.specs.PagesOf.{labelled, byte_in, moving}
 use Rattle.pages.specs.declared.flight.Flight.{Flight}
 use Rattle.page_state.specs.States.{StateOf, byte_shown}
-use Rattle.book.specs.Spots.{offset_of, holder, IsThere}
+use Rattle.book_events.specs.Spots.{offset_of, holder, IsThere}
 use Rattle.book.specs.Effects.{byte_at_spot, is_in_memory, is_known, knows, KnowsSpot, ReadsByte, WasByte, IsSaid, Follows, KeepsFlights}
 use Rattle.book.specs.MakesStep.{AgesByThree, MakesStep, is_refused}
-use Rattle.machine.proofs.HeldChanges.{goes-on-same}
-use Rattle.machine.proofs.HeldLemmas.{goes-still, goes-max}
+use Rattle.page_lists.proofs.HeldChanges.{goes-on-same}
+use Rattle.page_lists.proofs.HeldLemmas.{goes-still, goes-max}
 use Rattle.machine.specs.declared.record.Key.{Key}
 use Rattle.book.specs.declared.decision.PageFault.{PageFault}
 use Rattle.book.specs.Decisions.{spot_at, offset_at, IsFault, Finds, met_by, HasLife, IsOfKilled, AsksPage, FindsNothing}

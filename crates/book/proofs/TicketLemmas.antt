@@ -5,16 +5,16 @@ use Rattle.machine.specs.Slots.{there_and}
 use Rattle.machine.specs.Pages.{Coming, Going}
 use Rattle.pages.specs.Tickets.{TicketOf, stamped}
 use Rattle.pages.specs.PagesOf.{labelled}
-use Rattle.book.specs.declared.event.Reply.{Reply}
-use Rattle.book.specs.declared.event.Reply.TheVariants as reply
+use Rattle.book_events.specs.declared.event.Reply.{Reply}
+use Rattle.book_events.specs.declared.event.Reply.TheVariants as reply
 use Rattle.page_state.specs.States.{StateOf, byte_shown}
-use Rattle.book.specs.Spots.{offset_of}
+use Rattle.book_events.specs.Spots.{offset_of}
 use Rattle.book.specs.Effects.{is_in_memory}
-use Rattle.book.specs.Replies.{HandsOut}
+use Rattle.book_events.specs.Replies.{HandsOut}
 use Rattle.pages.specs.declared.flight.Flight.{Flight}
 use Rattle.machine.specs.declared.id.WorkerId.{WorkerId}
 use Rattle.machine.specs.History.{ticket_given}
-use Rattle.book.specs.Events.{reply_of}
+use Rattle.book_events.specs.Events.{reply_of}
 use Rattle.machine.specs.declared.event.Event.{Event}
 use Rattle.machine.specs.declared.event.Event.TheVariants as event
 use Rattle.book.specs.MakesStep.{RepliesTo, GivesTicket, stamped_reply, noted}

@@ -27,7 +27,7 @@ use Rattle.pages.specs.PagesOf.{byte_in, Label, labelled, HasResidence}
 use Rattle.page_state.specs.States.{StateOf, byte_shown}
 use Rattle.page_state.specs.Changes.{StartsTask, ForksTask, MovesTask, DropsPages, Unmaps, WritesByte, MakesPage as Makes}
 use Rattle.page_state.specs.Mapped.{AreMapped}
-use Rattle.book.specs.Spots.{offset_of, holder, IsThere}
+use Rattle.book_events.specs.Spots.{offset_of, holder, IsThere}
 use Rattle.book.specs.Effects.{byte_at_spot, is_in_memory, is_known, knows, KnowsSpot, WasByte, IsSaid}
 use Rattle.book.specs.MakesStep.{MakesStep}
 use Rattle.book.proofs.FlightLemmas.{in_transfer-changes}

@@ -31,14 +31,14 @@ use Rattle.pages.specs.declared.source.Source.TheVariants as source
 use Rattle.page_state.specs.declared.room.NoRoom.{NoRoom}
 use Rattle.page_state.specs.States.{StateOf}
 use Rattle.page_state.specs.Changes.{HasRoom, LacksRoom, SharesPage}
-use Rattle.book.specs.declared.event.Reply.{Reply as Given}
+use Rattle.book_events.specs.declared.event.Reply.{Reply as Given}
 use Rattle.book.specs.declared.decision.PageFault.{PageFault}
 use Rattle.book.specs.declared.decision.Meeting.{Meeting}
 use Rattle.book.specs.declared.decision.Meeting.TheVariants as meeting
 use Rattle.book.specs.declared.decision.Decision.{Decision}
 use Rattle.book.specs.declared.decision.Decision.TheVariants as decision
-use Rattle.book.specs.Spots.{offset_of, holder}
-use Rattle.book.specs.Events.{reply_of}
+use Rattle.book_events.specs.Spots.{offset_of, holder}
+use Rattle.book_events.specs.Events.{reply_of}
 use Rattle.book.specs.MakesStep.{MakesStep, GivesTicket, RepliesTo}
 
 -- ---- accesses

@@ -11,7 +11,7 @@ use Rattle.machine.specs.Access.{page_size}
 use Rattle.machine.specs.History.{Spot, InTask, InFile, spot_of, Says, Byte, As, Nothing, says, ticket_given}
 use Rattle.pages.specs.PagesOf.{Label, HasResidence}
 use Rattle.page_state.specs.States.{StateOf, byte_shown}
-use Rattle.book.specs.Spots.{offset_of, holder, IsThere}
+use Rattle.book_events.specs.Spots.{offset_of, holder, IsThere}
 
 -- ---- bytes
 

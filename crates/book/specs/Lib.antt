@@ -1,8 +1,5 @@
 pub mod Passes
 pub mod Keeping
-pub mod Spots
-pub mod Events
-pub mod Replies
 pub mod Effects
 pub mod MakesStep
 pub mod Decisions

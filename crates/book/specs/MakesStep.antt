@@ -15,9 +15,9 @@ use Rattle.machine.specs.Call.{need}
 use Rattle.pages.specs.PagesOf.{byte_in, Label, HasResidence}
 use Rattle.pages.specs.declared.flight.Flight.{Flight}
 use Rattle.pages.specs.Tickets.{new_ticket, stamped}
-use Rattle.book.specs.declared.event.Reply.{Reply as Given}
-use Rattle.book.specs.declared.event.Reply.TheVariants as given
-use Rattle.book.specs.Replies.{IsAccessReply, IsReliefReply, IsReclaimReply, IsOkReply, IsTaskReply, IsShownReply}
+use Rattle.book_events.specs.declared.event.Reply.{Reply as Given}
+use Rattle.book_events.specs.declared.event.Reply.TheVariants as given
+use Rattle.book_events.specs.Replies.{IsAccessReply, IsReliefReply, IsReclaimReply, IsOkReply, IsTaskReply, IsShownReply}
 use Rattle.page_state.specs.States.{StateOf}
 use Rattle.book.specs.Effects.{ReadsByte, ChangesBytes, KeepsFlights}
 

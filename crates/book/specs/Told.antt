@@ -7,7 +7,7 @@ use Rattle.machine.specs.Generations.{gens_at}
 use Rattle.machine.specs.Legal.{Legal}
 use Rattle.machine.specs.History.{Spot, Right, at_first, last, Honest, taker, entries_by, Numbered}
 use Rattle.page_state.specs.States.{StateOf}
-use Rattle.book.specs.Spots.{IsThere}
+use Rattle.book_events.specs.Spots.{IsThere}
 use Rattle.book.specs.Effects.{byte_at_spot, KnowsSpot}
 
 -- by page number, the worker who took the ticket of the page's transfer

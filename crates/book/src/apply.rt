@@ -11,7 +11,7 @@ ghost use Rattle.book.specs.declared.decision.Decision.TheVariants as decision;
 ghost use Rattle.book.specs.declared.decision.Meeting.TheVariants as meeting;
 
 use crate::decision::{Decision, Meeting, PageFault};
-use crate::event::Reply;
+use book_events::Reply;
 use machine::event::{Goal, Op, Query, Setting};
 use machine::id::{FrameId, GroupId, PageId, TaskId};
 use machine::record::{Key, Life};
@@ -216,7 +216,7 @@ fn kill_all(state: &mut State, limit: GroupId, victim: TaskId, group: GroupId) -
 {
     state.is_joined();
     state.tree().groups_form_a_tree();
-    let tasks = state.count_group_kill(limit, group);
+    let tasks = state.count_group_kill(limit, victim, group);
     state.end_tasks(group, Life::Killed);
     Reply::KilledAll {
         victim,

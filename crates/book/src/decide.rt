@@ -11,7 +11,7 @@ ghost use Rattle.machine.specs.Reclaim.{stands, target_of, goal_of};
 ghost use Rattle.machine.specs.declared.refusal.Refusal.{Refusal as Refusal_of};
 ghost use Rattle.machine.specs.Refusals.{refusal, task_refusal, below_target, bars_children, bars_tasks, file_refusal, show_refusal, spawn_refusal, attach_refusal, rmdir_refusal};
 ghost use Rattle.book.specs.MakesStep.{IsAsked};
-ghost use Rattle.book.specs.Spots.{holder};
+ghost use Rattle.book_events.specs.Spots.{holder};
 ghost use Rattle.book.specs.Decisions.{spot_at, IsFault, Finds, met_by, MeetsSo, RunsIn, kill_of, IsDecided};
 
 use crate::decision::{Decision, Meeting, PageFault};

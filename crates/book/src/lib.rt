@@ -6,17 +6,15 @@
 #![tactic(auto)]
 
 pub use book::Book;
-pub use event::{Event, Reply};
+pub use book_events::{Event, InTicket, OutTicket, Reply};
 pub use kept::{Asked, Kept};
 pub use looks::{GroupLook, Mapping, PageLook, Tally, Victim};
-pub use pages::{InTicket, OutTicket};
 pub use pass::Pass;
 
 mod apply;
 mod book;
 mod decide;
 mod decision;
-mod event;
 mod kept;
 mod looks;
 mod pass;

@@ -1,5 +1,9 @@
 //! Callers of libraries, with a test each, as the pages of those crates show them. They are here and not in the
 //! crates, since a crate with tests is proved twice.
+//!
+//! `crowd` and the modules that use it test `live`: workers whose transfers overlap, over devices that show it. A
+//! device's manner (`gate`) says what it does besides reading and writing. A held call ends after a limited number of
+//! turns of a loop. Each test ends by itself, unless a waiting worker is not woken.
 #![tactic(auto)]
 
 #[cfg(test)]
@@ -13,7 +17,11 @@ mod charges;
 #[cfg(test)]
 mod counted;
 #[cfg(test)]
+mod crowd;
+#[cfg(test)]
 mod cut_short;
+#[cfg(test)]
+mod gate;
 #[cfg(test)]
 mod groups;
 #[cfg(test)]
@@ -33,6 +41,12 @@ mod shared;
 #[cfg(test)]
 mod stepped;
 #[cfg(test)]
+mod stops;
+#[cfg(test)]
 mod tasks;
 #[cfg(test)]
+mod used;
+#[cfg(test)]
 mod words;
+#[cfg(test)]
+mod workers;

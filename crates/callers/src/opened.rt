@@ -60,7 +60,7 @@ fn control<L: Opened, D: SharedDevice, R: Wait>(
     pass: Pass<L>,
     commands: &[Command],
 ) -> Result<Row<L>, Refusal>
-    ensures works { IfOk result (λ row. Worked L.opening.watermarks Control commands.now pass.exchanges row.pass.exchanges row.answers.items) }
+    ensures works { IfOk result (λ row. Worked L.opening Control commands.now pass.exchanges row.pass.exchanges row.answers.items) }
     ensures rest { IfOk result (λ row. has_share pass.kept ≡ false → has_share row.pass.kept ≡ false) }
 {
     let mut pass = pass;
@@ -75,7 +75,7 @@ fn task<L: Opened, D: SharedDevice, R: Wait>(
     number: u32,
     commands: &[Command],
 ) -> Result<Row<L>, Refusal>
-    ensures works { IfOk result (λ row. Worked L.opening.watermarks (Task number) commands.now pass.exchanges row.pass.exchanges row.answers.items) }
+    ensures works { IfOk result (λ row. Worked L.opening (Task number) commands.now pass.exchanges row.pass.exchanges row.answers.items) }
     ensures rest { IfOk result (λ row. has_share pass.kept ≡ false → has_share row.pass.kept ≡ false) }
 {
     let mut pass = pass;
@@ -121,7 +121,7 @@ fn work<L: Opened + Send + Sync, D: SharedDevice + Sync, R: Threads + Wait + Syn
     second: &[Command],
 ) -> Result<Crew<L>, Refusal>
     requires { roll.old.given ≡ 0 }
-    ensures answered { IfOk result (λ crew. Answered L.opening.watermarks setup.now first.now second.now crew.answers.shell.items crew.answers.one.items crew.answers.two.items crew.passes.items) }
+    ensures answered { IfOk result (λ crew. Answered L.opening setup.now first.now second.now crew.answers.shell.items crew.answers.one.items crew.answers.two.items crew.passes.items) }
     ensures all { IfOk result (λ crew. length crew.passes.items ≡ roll.new.given) }
     ensures rest { IfOk result (λ crew. All (λ p. has_share p.kept ≡ false) crew.passes.items) }
 {

@@ -1,10 +1,12 @@
-//! Runs the cases of the files that its words name. It prints each case whose result is not what its file says, and the
-//! number of cases.
+//! Runs the cases of the files that its words name, and explores the races that they name. It prints each case and race
+//! whose result is not what its files say. Of a file it prints the number of cases, and of a race those of its outcomes.
 #![tactic(auto)]
 
 mod case;
+mod race;
 
 use case::read_cases;
+use race::explore_race;
 use std::fs::File;
 use std::io::{Read, Write};
 use std::process::ExitCode;
@@ -28,15 +30,19 @@ fn run_file<R: Files + Threads + Wait + Sync + AllocGlobal, W: Write>(
     Ok(cases.len())
 }
 
-/// Runs the cases of all files, and prints the number of cases of each.
+/// Runs the cases of all files, whose names end with `.cases`, and explores all races.
 fn run_all<R: Env + Files + Threads + Wait + Sync + AllocGlobal, W: Write>(
     rt: &R,
     out: &mut W,
 ) -> io::Result<()> {
     let words: Vec<String> = env::args(rt)?.collect(rt.alloc())?;
     for name in words.iter().skip(1) {
-        let cases = run_file(rt, name, out)?;
-        writeln!(out, "{name}: {cases}")?;
+        if name.ends_with(".cases") {
+            let cases = run_file(rt, name, out)?;
+            writeln!(out, "{name}: {cases}")?;
+        } else {
+            explore_race(rt, name, out)?;
+        }
     }
     Ok(())
 }

@@ -5,8 +5,6 @@ mod explore_args;
 mod forms;
 mod options;
 mod scenario_args;
-#[cfg(test)]
-mod tests;
 mod told;
 mod words;
 

@@ -16,7 +16,7 @@ use Rattle.machine.specs.Generations.{Gens}
 use Rattle.machine.specs.Eviction.{Picks}
 use Rattle.machine.specs.Lists.{Order, gives, gives_old, served, seen_of, Orders}
 use Rattle.legal.proofs.OrdersLemmas.{taken_is_picked}
-use Rattle.computed.proofs.ExampleStates.{group, shows, max_of, min_of, memory, of_file, opening, listed_at, of_memory, lists_of, no_marks, stuck}
+use Rattle.computed.proofs.ExampleStates.{group, shows, max_of, min_of, memory, of_file, opening, listed_at, of_memory, lists_of, no_marks, stuck, by_turns}
 
 -- ---- idle memory and an old page of a file
 
@@ -38,8 +38,8 @@ file_at seq = record { max_seq = 3; anon = record { min_seq = 0; pages = [] }; f
 abbrev order_of : ℕ → List Bool → Option ℕ → Order
 order_of seq marks last =
     record {
-      held = record { groups = lists_of (of_memory 3 0 (listed_at 0 0 ∷ [])) (file_at seq); marks = marks };
-      cursors = None ∷ last ∷ None ∷ None ∷ None ∷ None ∷ [];
+      held = record { groups = lists_of (of_memory 3 0 (listed_at 0 0 ∷ [])) (file_at seq); marks = marks; hits = [] };
+      cursors = by_turns (None ∷ last ∷ None ∷ None ∷ None ∷ None ∷ []);
     }
 
 -- the page of the file is old, no page is marked, and no group was served: it is the turn of /p/a

@@ -1,5 +1,6 @@
 -- Examples of whole calls: a charge over a limit, want of memory, what nothing answers, and a merge of marks. What is not an answer is shown not to be.
-use Rattle.std.proofs.Common.{◌≡◌, ℕ, zero, suc, ◌<◌, ◌==◌, ◌+◌, ◌&&◌, ◌||◌, not, Bool, true, false, [], ◌∷◌, ◌++◌, length, Option, Some, None, refl, ap, ne_eqb, arith, List}
+use Rattle.machine.specs.declared.config.Placement.TheVariants.{Own}
+use Rattle.std.proofs.Common.{◌≡◌, ℕ, zero, suc, ◌<◌, ◌==◌, ◌+◌, ◌&&◌, ◌||◌, not, Bool, true, false, [], ◌∷◌, ◌++◌, length, cond, Option, Some, None, refl, sym, ap, ne_eqb, arith, List}
 use Rattle.std.specs.Prelude.{replicate}
 use Rattle.machine.specs.declared.event.Op.TheVariants.{Write}
 use Rattle.machine.specs.declared.event.Place.TheVariants.{Virtual}
@@ -10,13 +11,14 @@ use Rattle.machine.specs.declared.reply.Reply.TheVariants as reply
 use Rattle.machine.specs.declared.refusal.Refusal.TheVariants as why
 use Rattle.machine.specs.declared.entry.Entry.{Entry}
 use Rattle.machine.specs.Tree.{chain_up, chain, under_at}
+use Rattle.machine.specs.declared.record.Kind.{Kind}
 use Rattle.machine.specs.Slots.{there_and}
-use Rattle.machine.specs.Pages.{page_at, is_held_in, in_transfer}
+use Rattle.machine.specs.Pages.{Page, Pages, page_at, is_held_in, in_transfer}
 use Rattle.machine.specs.Counts.{over_at, no_counts}
 use Rattle.machine.specs.State.{State}
 use Rattle.machine.specs.Refusals.{refusal}
 use Rattle.machine.specs.Aging.{is_marked}
-use Rattle.machine.specs.Lists.{Order, is_in_bits, MergesMarks}
+use Rattle.machine.specs.Lists.{Order, is_in_bits, MergesMarks, is_marking, Generation, Youngest, kind_at, hits_at_entry, hits_kept, hits_after, hits_with}
 use Rattle.machine.specs.Call.{Past, Caller, Called, knows_pass, need, entry_of, entries_of}
 use Rattle.computed.proofs.ExampleStates.{group, task, shows, pages, busy, busy_order}
 use Rattle.machine.specs.declared.record.EventCounts.{EventCounts}
@@ -53,6 +55,27 @@ none_marked zero p = refl
 none_marked (suc n) zero = refl
 none_marked (suc n) (suc p) = none_marked n p
 
+-- where no hit counts, none does later; and by our own placement a hit marks, and none counts
+pub stay_unhit : (generation : Generation) → hits_at_entry generation ≡ 0 → (before after : Pages) (p : ℕ) → 0 ≡ hits_kept generation (is_held_in before p) (is_held_in after p) 0
+stay_unhit generation none before after p = by_held (is_held_in before p) (is_held_in after p)
+  where
+    by_held : (b c : Bool) → 0 ≡ hits_kept generation b c 0
+    by_held true true = refl
+    by_held false true = sym none
+    by_held b false = refl
+
+pub own_unhit : (test : Page → Bool) (marks : List Bool) (pages : Pages) (p : ℕ) → 0 ≡ hits_with Own test (is_marked marks p) 0 (page_at pages p)
+own_unhit test marks pages p = by_slot (page_at pages p)
+  where
+    by_test : (kind : Kind) (b m : Bool) → 0 ≡ cond b (hits_after Own kind m 0) 0
+    by_test kind true true = refl
+    by_test kind true false = refl
+    by_test kind false m = refl
+
+    by_slot : (slot : Option Page) → 0 ≡ hits_with Own test (is_marked marks p) 0 slot
+    by_slot None = refl
+    by_slot (Some page) = by_test (kind_at page.content) (test page) (is_marked marks p)
+
 pub stay_unmarked : (n : ℕ) (b c : Bool) (p : ℕ) → is_marked (replicate n false) p ≡ (b && c && is_marked (replicate n false) p)
 stay_unmarked n true true p = refl
 stay_unmarked n true false p = none_marked n p
@@ -72,7 +95,7 @@ over : Called (past busy busy_order) caller write (reply.Over (group 2)) (after 
 unfolding chain_up chain under_at over_at
 over = record {
   steps = (refl, refl);
-  order = (record { fresh = None; which = λ p. not_new (is_held_in pages p); groups = refl; size = refl; marks = λ p. stay_unmarked 10 (is_held_in pages p) (is_held_in pages p) p }, refl);
+  order = (record { fresh = None; which = λ p. not_new (is_held_in pages p); groups = refl; size = refl; marks = λ p. stay_unmarked 10 (is_held_in pages p) (is_held_in pages p) p; counts = refl; hits = stay_unhit Youngest refl pages pages }, refl);
   history = refl;
   passes = refl;
 }
@@ -121,13 +144,13 @@ merge = event.MergeMarks 0 32
 
 -- page 1 is marked, and nothing else changes
 abbrev one_marked : Order
-one_marked = record { held = record { groups = busy_order.held.groups; marks = false ∷ true ∷ replicate 8 false }; cursors = busy_order.cursors }
+one_marked = record { held = record { groups = busy_order.held.groups; marks = false ∷ true ∷ replicate 8 false; hits = [] }; cursors = busy_order.cursors }
 
 -- the bit does this
-merges_one : MergesMarks pages 0 32 busy_order.held one_marked.held
-merges_one = record { groups = refl; size = refl; marks = marks }
+merges_one : MergesMarks Own pages 0 32 busy_order.held one_marked.held
+merges_one = record { groups = refl; size = refl; marks = marks; counts = refl; hits = own_unhit (is_in_bits 0 32) busy_order.held.marks pages }
   where
-    marks : (p : ℕ) → is_marked one_marked.held.marks p ≡ (is_marked (replicate 10 false) p || there_and (is_in_bits 0 32) (page_at pages p))
+    marks : (p : ℕ) → is_marked one_marked.held.marks p ≡ (is_marked (replicate 10 false) p || is_marking Own (is_in_bits 0 32) 0 (page_at pages p))
     marks zero = refl
     marks (suc zero) = refl
     marks (suc (suc zero)) = refl

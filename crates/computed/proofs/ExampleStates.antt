@@ -1,6 +1,6 @@
 -- The groups, tasks, pages and states that the examples are about.
 use Rattle.std.proofs.Common.{ℕ, ◌+◌, ◌*◌, ◌-◌, Bool, true, false, List, [], ◌∷◌, Option, Some, None}
-use Rattle.std.specs.Prelude.{codes, replicate}
+use Rattle.std.specs.Prelude.{codes, map, replicate}
 use Rattle.machine.specs.declared.config.Placement.TheVariants.{Own}
 use Rattle.machine.specs.declared.amount.Amount.TheVariants as amount
 use Rattle.machine.specs.declared.id.GroupId.{GroupId}
@@ -12,6 +12,7 @@ use Rattle.machine.specs.declared.record.Life.TheVariants.{Live, Exited, Killed}
 use Rattle.machine.specs.declared.record.Limits.{Limits}
 use Rattle.machine.specs.declared.record.OomGroup.{OomGroup}
 use Rattle.machine.specs.declared.record.OomGroup.TheVariants.{Single}
+use Rattle.machine.specs.Order.{Cursor, no_cursor, one_page_of}
 use Rattle.machine.specs.Tree.{Node, root}
 use Rattle.machine.specs.Pages.{Memory, OfFile, Residence, Held, Coming, Going, Away, Page, Pages}
 use Rattle.machine.specs.Counts.{no_limits, no_counts}
@@ -137,13 +138,22 @@ lists_of two three = new_gens ∷ new_gens ∷ two ∷ three ∷ new_gens ∷ ne
 abbrev pub no_marks : List Bool
 no_marks = false ∷ false ∷ false ∷ false ∷ false ∷ false ∷ false ∷ false ∷ false ∷ false ∷ []
 
+-- whose turn it is where a page of each group is taken: behind this group, or behind none
+abbrev pub turn_behind : Option ℕ → Cursor
+turn_behind None = no_cursor
+turn_behind (Some g) = one_page_of g
+
+-- by target the group that was served last, where a page of each is taken
+abbrev pub by_turns : List (Option ℕ) → List Cursor
+by_turns last = map turn_behind last
+
 -- no target for which a group was served
-abbrev pub none_served : List (Option ℕ)
-none_served = None ∷ None ∷ None ∷ None ∷ None ∷ None ∷ []
+abbrev pub none_served : List Cursor
+none_served = by_turns (None ∷ None ∷ None ∷ None ∷ None ∷ None ∷ [])
 
 -- of groups 2 and 3 these lists, no page marked, and no group served
 abbrev pub ordered : Gens → Gens → Order
-ordered two three = record { held = record { groups = lists_of two three; marks = no_marks }; cursors = none_served }
+ordered two three = record { held = record { groups = lists_of two three; marks = no_marks; hits = [] }; cursors = none_served }
 
 -- page 1 came into its frame before page 0, and no group was served
 abbrev pub busy_order : Order
@@ -167,6 +177,6 @@ stuck = record {
 abbrev pub stuck_order : Order
 stuck_order =
     record {
-      held = record { groups = lists_of (young (listed_at 0 3 ∷ [])) (young (listed_at 1 3 ∷ listed_at 2 3 ∷ [])); marks = false ∷ false ∷ false ∷ false ∷ false ∷ false ∷ [] };
+      held = record { groups = lists_of (young (listed_at 0 3 ∷ [])) (young (listed_at 1 3 ∷ listed_at 2 3 ∷ [])); marks = false ∷ false ∷ false ∷ false ∷ false ∷ false ∷ []; hits = [] };
       cursors = none_served;
     }

@@ -25,7 +25,7 @@ use Rattle.machine.specs.Call.{need}
 use Rattle.machine.specs.Lists.{shown_at, is_in_bits}
 use Rattle.machine.specs.Step.{in_frame, on_block, touched, shown_of, LeavesFrom, Step}
 use Rattle.machine.proofs.Values.{some_inj}
-use Rattle.machine.proofs.TakeableLemmas.{next-takeable}
+use Rattle.page_lists.proofs.TakeableLemmas.{next-takeable}
 use Rattle.computed.proofs.ExampleStates.{group, task, frame, shows, tree, max_of, single, memory, opening}
 use Rattle.std.specs.Prelude.{replicate}
 

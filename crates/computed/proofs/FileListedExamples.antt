@@ -1,4 +1,5 @@
 -- Examples: pages of files on generation lists, of the group that is charged for each, and which page is taken where no swap block is free.
+use Rattle.machine.specs.declared.config.Placement.TheVariants.{Own}
 use Rattle.std.proofs.Common.{◌≡◌, ℕ, zero, suc, ◌<◌, ◌||◌, ◌==◌, false, true, List, [], ◌∷◌, Some, None, refl, sym, arith}
 use Rattle.machine.specs.declared.event.Op.TheVariants.{Read}
 use Rattle.machine.specs.declared.event.Place.TheVariants as place
@@ -13,10 +14,10 @@ use Rattle.machine.specs.Pages.{page_at, is_held_in}
 use Rattle.machine.specs.Generations.{Listed, Gens, row_of, has_page, gens_at}
 use Rattle.machine.specs.Aging.{is_marked}
 use Rattle.machine.specs.Eviction.{old_pages, aged_times}
-use Rattle.machine.specs.Lists.{Order, HeldLists, is_held_of, seen_of, PicksOf, ListsHeld, is_in_bits, Orders}
+use Rattle.machine.specs.Lists.{Order, HeldLists, is_held_of, seen_of, PicksOf, ListsHeld, is_in_bits, Orders, is_marking, Youngest}
 use Rattle.machine.proofs.Values.{unlike}
 use Rattle.computed.proofs.ExampleStates.{task, frame, listed_at, lists_of, no_marks, none_served, ordered}
-use Rattle.computed.proofs.CallExamples.{not_new, none_marked, other_number, stay_unmarked}
+use Rattle.computed.proofs.CallExamples.{not_new, none_marked, other_number, stay_unmarked, stay_unhit, own_unhit}
 use Rattle.computed.proofs.FileExamples.{kept, caching}
 use Rattle.computed.proofs.HeldExamples.{unlike_mark, set_is_not_clear, clear_is_not_set}
 
@@ -41,7 +42,7 @@ none_of g two three kind (suc (suc (suc (suc (suc p))))) = refl
 
 -- those in transfer are on no list
 caching-listed : ListsHeld kept caching_order.held
-caching-listed = record { rows = rows; marked = λ p is. unlike _ is (none_marked 10 p) }
+caching-listed = record { rows = rows; marked = λ p is. unlike _ is (none_marked 10 p); counted = λ p gone. refl }
   where
     two : (kind : Kind) (p : ℕ) → has_page p (row_of kind (gens_at caching_order.held.groups 2)).pages ≡ there_and (is_held_of 2 kind) (page_at kept p)
     two Anon zero = refl
@@ -106,10 +107,10 @@ hit = reply.Done 12 (Some (frame 1))
 
 -- no list changes, and no page is marked
 hits : Orders caching caching_order read hit caching caching_order
-hits = (record { fresh = None; which = λ p. not_new (is_held_in kept p); groups = refl; size = refl; marks = λ p. stay_unmarked 10 (is_held_in kept p) (is_held_in kept p) p }, refl)
+hits = (record { fresh = None; which = λ p. not_new (is_held_in kept p); groups = refl; size = refl; marks = λ p. stay_unmarked 10 (is_held_in kept p) (is_held_in kept p) p; counts = refl; hits = stay_unhit Youngest refl kept kept }, refl)
 
 abbrev marked_order : Order
-marked_order = record { held = record { groups = caching_order.held.groups; marks = false ∷ true ∷ false ∷ false ∷ false ∷ false ∷ false ∷ false ∷ false ∷ false ∷ [] }; cursors = none_served }
+marked_order = record { held = record { groups = caching_order.held.groups; marks = false ∷ true ∷ false ∷ false ∷ false ∷ false ∷ false ∷ false ∷ false ∷ false ∷ []; hits = [] }; cursors = none_served }
 
 -- not even the page that was read
 hits-not_marked : Orders caching caching_order read hit caching marked_order → ⊥
@@ -121,9 +122,9 @@ merge = event.MergeMarks 0 10
 
 -- page 1 is marked, and stays on the list of /p/a. Page 3, which comes into frame 3, is not marked
 merges : Orders caching caching_order merge reply.Ok caching marked_order
-merges = (record { groups = refl; size = refl; marks = marks }, refl)
+merges = (record { groups = refl; size = refl; marks = marks; counts = refl; hits = own_unhit (is_in_bits 0 10) caching_order.held.marks caching.pages }, refl)
   where
-    marks : (p : ℕ) → is_marked marked_order.held.marks p ≡ (is_marked no_marks p || there_and (is_in_bits 0 10) (page_at kept p))
+    marks : (p : ℕ) → is_marked marked_order.held.marks p ≡ (is_marked no_marks p || is_marking Own (is_in_bits 0 10) 0 (page_at kept p))
     marks zero = refl
     marks (suc zero) = refl
     marks (suc (suc zero)) = refl
@@ -156,7 +157,7 @@ too_early (suc zero) less = refl
 too_early (suc (suc n)) less = absurd (omega (arith, less))
 
 abbrev aged_lists : HeldLists
-aged_lists = record { groups = lists_of (both_rows 7 4 (listed_at 0 4 ∷ []) 5 (listed_at 1 5 ∷ [])) (both_rows 3 0 [] 0 []); marks = no_marks }
+aged_lists = record { groups = lists_of (both_rows 7 4 (listed_at 0 4 ∷ []) 5 (listed_at 1 5 ∷ [])) (both_rows 3 0 [] 0 []); marks = no_marks; hits = [] }
 
 picks-file : PicksOf false old_memory.held 2 (Some 1) aged_lists
 picks-file = record {

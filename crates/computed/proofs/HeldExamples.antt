@@ -17,13 +17,13 @@ use Rattle.machine.specs.State.{State}
 use Rattle.machine.specs.Tree.{rank}
 use Rattle.machine.specs.Step.{new_node}
 use Rattle.machine.specs.Counts.{no_limits, no_counts}
-use Rattle.machine.specs.Order.{cursor_at}
+use Rattle.machine.specs.Order.{no_cursor, cursor_at}
 use Rattle.machine.specs.Generations.{Listed, Gens, new_gens, gens_at}
 use Rattle.machine.specs.Aging.{is_marked}
 use Rattle.machine.specs.Lists.{HeldLists, Order, Youngest, SecondYoungest, ByType, second_oldest, seq_in, generation_for, is_fresh, GoesOn, Orders}
 use Rattle.legal.proofs.OrdersLemmas.{goes_on_alike, orders_alike}
 use Rattle.computed.proofs.ExampleStates.{task, ticket, memory, of_file, pages, busy, listed_at, young, searched, lists_of, ordered, none_served, stuck}
-use Rattle.computed.proofs.CallExamples.{not_new, other_number, none_marked, stay_unmarked}
+use Rattle.computed.proofs.CallExamples.{not_new, other_number, none_marked, stay_unmarked, stay_unhit}
 
 -- ---- what an order says
 
@@ -52,8 +52,8 @@ module _ (old new : State) (order order' other : Order) (what : Event) (answer :
   pub unlike_mark : (p : ℕ) → (marked p order'.held ≡ marked p other.held → ⊥) → Orders old order what answer new other → ⊥
   unlike_mark p differs h = differs (ap (λ (o : Order). marked p o.held) (orders_alike old new order order' other what answer is h))
 
-  pub unlike_cursor : (target : ℕ) → (rank (cursor_at order'.cursors target) ≡ rank (cursor_at other.cursors target) → ⊥) → Orders old order what answer new other → ⊥
-  unlike_cursor target differs h = differs (ap (λ (o : Order). rank (cursor_at o.cursors target)) (orders_alike old new order order' other what answer is h))
+  pub unlike_cursor : (target : ℕ) → (rank (cursor_at order'.cursors target).group ≡ rank (cursor_at other.cursors target).group → ⊥) → Orders old order what answer new other → ⊥
+  unlike_cursor target differs h = differs (ap (λ (o : Order). rank (cursor_at o.cursors target).group) (orders_alike old new order order' other what answer is h))
 
 pub set_is_not_clear : true ≡ false → ⊥
 set_is_not_clear e = cc
@@ -74,7 +74,7 @@ two_stay zero_is one_is after first second (suc (suc p)) = stay_unmarked 8 (is_h
 
 -- of groups 2 and 3 these lists, and page 1 marked
 abbrev pub one_marked : Gens → Gens → Order
-one_marked two three = record { held = record { groups = lists_of two three; marks = marks_of false true }; cursors = none_served }
+one_marked two three = record { held = record { groups = lists_of two three; marks = marks_of false true; hits = [] }; cursors = none_served }
 
 -- /p/a has page 1 in an old generation, and page 0 in the youngest
 abbrev pub aged_lists : Gens
@@ -110,7 +110,7 @@ abbrev made_order : Order
 made_order = one_marked (searched 5 3 (listed_at 1 3 ∷ listed_at 0 5 ∷ listed_at 5 5 ∷ [])) new_gens
 
 makes : Orders busy before write (reply.Done 7 None) made made_order
-makes = (record { fresh = Some 5; which = which; groups = refl; size = refl; marks = two_stay false true made.pages refl refl }, refl)
+makes = (record { fresh = Some 5; which = which; groups = refl; size = refl; marks = two_stay false true made.pages refl refl; counts = refl; hits = stay_unhit Youngest refl busy.pages made.pages }, refl)
   where
     which : (p : ℕ) → is_number (Some 5) p ≡ is_fresh pages made.pages p
     which zero = refl
@@ -133,7 +133,7 @@ makes-not_second : NotMade (one_marked (searched 5 3 (listed_at 1 3 ∷ listed_a
 makes-not_second = unlike_number busy made before made_order _ write (reply.Done 7 None) makes (page_standing 2 1) (λ e. omega (arith, e))
 
 -- that it was made is no use of it
-makes-not_marked : NotMade (record made_order { held = record { groups = made_order.held.groups; marks = false ∷ true ∷ false ∷ false ∷ false ∷ true ∷ false ∷ false ∷ false ∷ false ∷ [] } })
+makes-not_marked : NotMade (record made_order { held = record { groups = made_order.held.groups; marks = false ∷ true ∷ false ∷ false ∷ false ∷ true ∷ false ∷ false ∷ false ∷ false ∷ []; hits = [] } })
 makes-not_marked = unlike_mark busy made before made_order _ write (reply.Done 7 None) makes 5 clear_is_not_set
 
 -- and the mark of another page stays
@@ -160,7 +160,7 @@ two_is_fresh (suc (suc zero)) = refl
 two_is_fresh (suc (suc (suc p))) = other_number 2 (suc (suc (suc p))) (omega arith) ∙ not_new (is_held_in pages (suc (suc (suc p))))
 
 arrives : Orders busy before arrival reply.Ok arrived arrived_order
-arrives = (record { fresh = Some 2; which = two_is_fresh; groups = refl; size = refl; marks = two_stay false true arrived.pages refl refl }, refl)
+arrives = (record { fresh = Some 2; which = two_is_fresh; groups = refl; size = refl; marks = two_stay false true arrived.pages refl refl; counts = refl; hits = stay_unhit SecondYoungest refl busy.pages arrived.pages }, refl)
 
 -- not the youngest, of those that were made
 arrives-not_youngest : Orders busy before arrival reply.Ok arrived (one_marked (searched 5 3 (listed_at 1 3 ∷ listed_at 0 5 ∷ listed_at 2 5 ∷ [])) new_gens) → ⊥
@@ -171,7 +171,7 @@ abbrev not_arrived : State
 not_arrived = with_pages (memory 2 (Away 1)) three_goes (four ∷ [])
 
 fails : Orders busy before (event.FetchFailed (ticket 7)) reply.Ok not_arrived before
-fails = (record { fresh = None; which = which; groups = refl; size = refl; marks = two_stay false true not_arrived.pages refl refl }, refl)
+fails = (record { fresh = None; which = which; groups = refl; size = refl; marks = two_stay false true not_arrived.pages refl refl; counts = refl; hits = stay_unhit SecondYoungest refl busy.pages not_arrived.pages }, refl)
   where
     which : (p : ℕ) → false ≡ is_fresh pages not_arrived.pages p
     which zero = refl
@@ -190,7 +190,7 @@ abbrev file_order : Order
 file_order = one_marked (record aged_lists { file = record { min_seq = 4; pages = listed_at 2 4 ∷ [] } }) new_gens
 
 arrives-file : GoesOn SecondYoungest file_comes before.held file_came file_order.held
-arrives-file = record { fresh = Some 2; which = which; groups = refl; size = refl; marks = marks }
+arrives-file = record { fresh = Some 2; which = which; groups = refl; size = refl; marks = marks; counts = refl; hits = stay_unhit SecondYoungest refl file_comes file_came }
   where
     which : (p : ℕ) → is_number (Some 2) p ≡ is_fresh file_comes file_came p
     which zero = refl
@@ -242,7 +242,7 @@ abbrev failed_order : Order
 failed_order = one_marked aged_lists (young (listed_at 3 3 ∷ []))
 
 returns : Orders busy before (event.LeaveFailed (ticket 8)) reply.Ok still_held failed_order
-returns = (record { fresh = Some 3; which = which; groups = refl; size = refl; marks = two_stay false true still_held.pages refl refl }, refl)
+returns = (record { fresh = Some 3; which = which; groups = refl; size = refl; marks = two_stay false true still_held.pages refl refl; counts = refl; hits = stay_unhit Youngest refl busy.pages still_held.pages }, refl)
   where
     which : (p : ℕ) → is_number (Some 3) p ≡ is_fresh pages still_held.pages p
     which zero = refl
@@ -260,7 +260,7 @@ abbrev gone : State
 gone = with_pages two_comes (memory 3 (Away 2)) (four ∷ [])
 
 leaves : Orders busy before (event.Left (ticket 8)) reply.Ok gone before
-leaves = (record { fresh = None; which = which; groups = refl; size = refl; marks = two_stay false true gone.pages refl refl }, refl)
+leaves = (record { fresh = None; which = which; groups = refl; size = refl; marks = two_stay false true gone.pages refl refl; counts = refl; hits = stay_unhit Youngest refl busy.pages gone.pages }, refl)
   where
     which : (p : ℕ) → false ≡ is_fresh pages gone.pages p
     which zero = refl
@@ -280,7 +280,7 @@ without_zero = (one_marked (searched 5 3 (listed_at 1 3 ∷ listed_at 5 5 ∷ []
 
 -- the others keep their places, and page 1 its mark
 goes : GoesOn Youngest made.pages made_order.held two_left without_zero
-goes = record { fresh = None; which = which; groups = refl; size = refl; marks = marks }
+goes = record { fresh = None; which = which; groups = refl; size = refl; marks = marks; counts = refl; hits = stay_unhit Youngest refl made.pages two_left }
   where
     which : (p : ℕ) → false ≡ is_fresh made.pages two_left p
     which zero = refl
@@ -297,7 +297,7 @@ goes-not_moved h = let e : 1 ≡ 5 = ap (page_standing 2 0) (goes_on_alike _ _ _
 
 -- task 1 of /p/a shows page 0, and task 2 of /p/b pages 1 and 2. Pages 0 and 2 are marked
 abbrev two_run : Order
-two_run = record { held = record { groups = lists_of (young (listed_at 0 3 ∷ [])) (young (listed_at 1 3 ∷ listed_at 2 3 ∷ [])); marks = true ∷ false ∷ true ∷ false ∷ false ∷ false ∷ [] }; cursors = none_served }
+two_run = record { held = record { groups = lists_of (young (listed_at 0 3 ∷ [])) (young (listed_at 1 3 ∷ listed_at 2 3 ∷ [])); marks = true ∷ false ∷ true ∷ false ∷ false ∷ false ∷ []; hits = [] }; cursors = none_served }
 
 -- task 2 exits, and both its pages go
 abbrev one_runs : State
@@ -305,10 +305,10 @@ one_runs = record stuck { pages = Some (memory 2 (Held 0)) ∷ []; tasks = None 
 
 -- with them goes the mark of page 2
 abbrev one_order : Order
-one_order = record { held = record { groups = lists_of (young (listed_at 0 3 ∷ [])) new_gens; marks = true ∷ false ∷ false ∷ false ∷ false ∷ false ∷ [] }; cursors = none_served }
+one_order = record { held = record { groups = lists_of (young (listed_at 0 3 ∷ [])) new_gens; marks = true ∷ false ∷ false ∷ false ∷ false ∷ false ∷ []; hits = [] }; cursors = none_served }
 
 ends : Orders stuck two_run (event.Exit (task 2)) reply.Ok one_runs one_order
-ends = (record { fresh = None; which = which; groups = refl; size = refl; marks = marks }, refl)
+ends = (record { fresh = None; which = which; groups = refl; size = refl; marks = marks; counts = refl; hits = stay_unhit Youngest refl stuck.pages one_runs.pages }, refl)
   where
     which : (p : ℕ) → false ≡ is_fresh stuck.pages one_runs.pages p
     which zero = refl
@@ -321,7 +321,7 @@ ends = (record { fresh = None; which = which; groups = refl; size = refl; marks 
     marks (suc (suc (suc p))) = none_marked 3 p
 
 -- no page leaves its mark behind
-ends-not_left : Orders stuck two_run (event.Exit (task 2)) reply.Ok one_runs (record one_order { held = record { groups = one_order.held.groups; marks = two_run.held.marks } }) → ⊥
+ends-not_left : Orders stuck two_run (event.Exit (task 2)) reply.Ok one_runs (record one_order { held = record { groups = one_order.held.groups; marks = two_run.held.marks; hits = [] } }) → ⊥
 ends-not_left = unlike_mark stuck one_runs two_run one_order _ (event.Exit (task 2)) reply.Ok ends 2 clear_is_not_set
 
 -- ---- a page number that is used again
@@ -331,11 +331,11 @@ abbrev again : State
 again = record one_runs { pages = Some (memory 2 (Held 0)) ∷ None ∷ Some (memory 2 (Held 1)) ∷ [] }
 
 abbrev again_order : Order
-again_order = record { held = record { groups = lists_of (young (listed_at 0 3 ∷ listed_at 2 3 ∷ [])) new_gens; marks = true ∷ false ∷ false ∷ false ∷ false ∷ false ∷ [] }; cursors = none_served }
+again_order = record { held = record { groups = lists_of (young (listed_at 0 3 ∷ listed_at 2 3 ∷ [])) new_gens; marks = true ∷ false ∷ false ∷ false ∷ false ∷ false ∷ []; hits = [] }; cursors = none_served }
 
 -- though a page of that number had been marked, this one is not
 uses_again : Orders one_runs one_order write (reply.Done 7 None) again again_order
-uses_again = (record { fresh = Some 2; which = which; groups = refl; size = refl; marks = marks }, refl)
+uses_again = (record { fresh = Some 2; which = which; groups = refl; size = refl; marks = marks; counts = refl; hits = stay_unhit Youngest refl one_runs.pages again.pages }, refl)
   where
     which : (p : ℕ) → is_number (Some 2) p ≡ is_fresh one_runs.pages again.pages p
     which zero = refl
@@ -349,10 +349,10 @@ uses_again = (record { fresh = Some 2; which = which; groups = refl; size = refl
 
 -- not even where a mark had been left behind
 abbrev left_behind : Order
-left_behind = record one_order { held = record { groups = one_order.held.groups; marks = true ∷ false ∷ true ∷ false ∷ false ∷ false ∷ [] } }
+left_behind = record one_order { held = record { groups = one_order.held.groups; marks = true ∷ false ∷ true ∷ false ∷ false ∷ false ∷ []; hits = [] } }
 
 uses_again-unmarked : Orders one_runs left_behind write (reply.Done 7 None) again again_order
-uses_again-unmarked = (record { fresh = uses_again.0.fresh; which = uses_again.0.which; groups = uses_again.0.groups; size = refl; marks = marks }, refl)
+uses_again-unmarked = (record { fresh = uses_again.0.fresh; which = uses_again.0.which; groups = uses_again.0.groups; size = refl; marks = marks; counts = refl; hits = stay_unhit Youngest refl one_runs.pages again.pages }, refl)
   where
     marks : (p : ℕ) → is_marked again_order.held.marks p ≡ (is_held_in one_runs.pages p && is_held_in again.pages p && is_marked left_behind.held.marks p)
     marks zero = refl
@@ -371,7 +371,7 @@ with_six = record busy { tree = busy.tree ++ new_node busy.tree (codes "/p/c") �
 
 -- group 6 has four generations of each type, no page, and a cursor of its own
 abbrev six_order : Order
-six_order = record { held = record { groups = lists_of aged_lists new_gens ++ new_gens ∷ []; marks = marks_of false true }; cursors = none_served ++ None ∷ [] }
+six_order = record { held = record { groups = lists_of aged_lists new_gens ++ new_gens ∷ []; marks = marks_of false true; hits = [] }; cursors = none_served ++ no_cursor ∷ [] }
 
 adds : Orders busy before mkdir reply.Ok with_six six_order
 adds = refl

@@ -9,6 +9,7 @@ mod StepExamples
 mod CallExamples
 mod TurnExamples
 mod AgeExamples
+mod PartExamples
 mod ReliefExamples
 mod LowStepExamples
 mod OomGroupExamples
@@ -27,6 +28,7 @@ mod ControlExamples
 mod GenerationExamples
 mod HeldExamples
 mod UsedExamples
+mod FifthExamples
 mod ListedExamples
 mod FileListedExamples
 mod MarkedExamples

@@ -1,12 +1,12 @@
 -- Examples: orders whose lists are sound, and have just the pages that are held; and one whose lists have not.
-use Rattle.std.proofs.Common.{◌≡◌, ℕ, zero, suc, ◌+◌, ◌&&◌, ◌==◌, Bool, true, false, List, [], ◌∷◌, refl, sym, arith}
+use Rattle.std.proofs.Common.{◌≡◌, ℕ, zero, suc, ◌+◌, ◌&&◌, ◌==◌, Bool, true, false, List, [], ◌∷◌, replicate, refl, sym, arith}
 use Rattle.machine.specs.declared.record.Kind.{Kind}
 use Rattle.machine.specs.declared.record.Kind.TheVariants.{Anon, File}
 use Rattle.machine.specs.Slots.{there_and}
 use Rattle.machine.specs.Pages.{Residence, Held, Pages, is_held_at, page_at}
 use Rattle.machine.specs.State.{Opening, first_state}
 use Rattle.machine.specs.Generations.{Listed, Gens, row_of, has_page, new_gens, gens_at, IsGens, IsRow}
-use Rattle.machine.specs.Lists.{first_order, is_held_of, ListsHeld, AreGenerations}
+use Rattle.machine.specs.Lists.{first_order, hits_at, is_held_of, ListsHeld, AreGenerations}
 use Rattle.machine.proofs.Values.{unlike}
 use Rattle.computed.proofs.ExampleStates.{memory, pages, listed_at, young, lists_of, ordered, busy_order, stuck, stuck_order}
 use Rattle.computed.proofs.CallExamples.{none_marked, other_number}
@@ -106,9 +106,15 @@ no_file_of g group residence = by_tests (is_held_at residence) (group == g)
     by_tests true false = refl
     by_tests false c = refl
 
+-- no page has a hit
+none_hit : (n p : ℕ) → hits_at (replicate n 0) p ≡ 0
+none_hit zero p = refl
+none_hit (suc n) zero = refl
+none_hit (suc n) (suc p) = none_hit n p
+
 -- no page, and no group but the root
 first-listed : (fixed : Opening) → ListsHeld (first_state fixed).pages (first_order fixed).held
-first-listed fixed = record { rows = rows; marked = λ p is. unlike _ is (none_marked (fixed.frames + fixed.swap) p) }
+first-listed fixed = record { rows = rows; marked = λ p is. unlike _ is (none_marked (fixed.frames + fixed.swap) p); counted = λ p gone. none_hit (fixed.frames + fixed.swap) p }
   where
     rows : (g : ℕ) (kind : Kind) (p : ℕ) → has_page p (row_of kind (gens_at (new_gens ∷ []) g)).pages ≡ false
     rows zero Anon p = refl
@@ -118,7 +124,7 @@ first-listed fixed = record { rows = rows; marked = λ p is. unlike _ is (none_m
 
 -- pages 0 and 1 are held, and no others: not those in transfer, nor one that is on its block
 busy-listed : ListsHeld pages busy_order.held
-busy-listed = record { rows = two_listed pages _ [] no_file no_other in_two in_three; marked = λ p is. unlike _ is (none_marked 10 p) }
+busy-listed = record { rows = two_listed pages _ [] no_file no_other in_two in_three; marked = λ p is. unlike _ is (none_marked 10 p); counted = λ p gone. refl }
   where
     no_file : (g : ℕ) → NoneOf pages g File
     no_file g zero = no_file_of g 2 (Held 4)
@@ -154,7 +160,7 @@ busy-listed = record { rows = two_listed pages _ [] no_file no_other in_two in_t
     in_three (suc (suc (suc (suc (suc p))))) = refl
 
 stuck-listed : ListsHeld stuck.pages stuck_order.held
-stuck-listed = record { rows = two_listed stuck.pages _ _ no_file no_other in_two in_three; marked = λ p is. unlike _ is (none_marked 6 p) }
+stuck-listed = record { rows = two_listed stuck.pages _ _ no_file no_other in_two in_three; marked = λ p is. unlike _ is (none_marked 6 p); counted = λ p gone. refl }
   where
     no_file : (g : ℕ) → NoneOf stuck.pages g File
     no_file g zero = no_file_of g 2 (Held 0)
@@ -193,5 +199,5 @@ file-not_listed : ListsHeld pages (ordered (record (young (listed_at 1 3 ∷ [])
 file-not_listed h = let e : true ≡ false = h.rows 2 File 0 in cc
 
 -- and no mark stands for a page in transfer
-transfer-not_marked : ListsHeld pages (record { groups = busy_order.held.groups; marks = false ∷ false ∷ true ∷ [] }) → ⊥
+transfer-not_marked : ListsHeld pages (record { groups = busy_order.held.groups; marks = false ∷ false ∷ true ∷ []; hits = [] }) → ⊥
 transfer-not_marked h = let e : false ≡ true = h.marked 2 refl in cc

@@ -25,7 +25,7 @@ use Rattle.machine.specs.Reclaim.{is_above_low, is_takeable, has_takeable, is_op
 use Rattle.machine.specs.Lists.{Order, gives, served}
 use Rattle.machine.specs.Events.{low_named}
 use Rattle.machine.specs.Step.{with_setting, shown_of, Step}
-use Rattle.computed.proofs.ExampleStates.{group, max_of, min_of, low_of, memory, of_file, shows, opening, busy, listed_at, young, ordered}
+use Rattle.computed.proofs.ExampleStates.{group, max_of, min_of, low_of, memory, of_file, shows, opening, busy, listed_at, young, ordered, by_turns}
 
 -- ---- what a low protects
 
@@ -195,7 +195,7 @@ all_within = full (low_of 2) (low_of 1)
 
 -- all pages are of the youngest generations, and this group was served last for /p
 abbrev pub full_order : Option ℕ → Order
-full_order last = record (ordered (young (listed_at 0 3 ∷ listed_at 1 3 ∷ [])) (young (listed_at 2 3 ∷ []))) { cursors = None ∷ last ∷ None ∷ None ∷ None ∷ None ∷ [] }
+full_order last = record (ordered (young (listed_at 0 3 ∷ listed_at 1 3 ∷ [])) (young (listed_at 2 3 ∷ []))) { cursors = by_turns (None ∷ last ∷ None ∷ None ∷ None ∷ None ∷ []) }
 
 -- ---- a group within its low, while another has an open page
 

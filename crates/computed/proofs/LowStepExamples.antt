@@ -19,14 +19,14 @@ use Rattle.machine.specs.Reclaim.{is_next, counted_at_take}
 use Rattle.machine.specs.Generations.{gens_at}
 use Rattle.machine.specs.Aging.{Seen}
 use Rattle.machine.specs.Eviction.{old_pages, aged_times, Picks}
-use Rattle.machine.specs.Lists.{Order, seen_of, with_seen, is_fresh, TakesNext}
+use Rattle.machine.specs.Lists.{Order, seen_of, with_seen, is_fresh, TakesNext, Youngest}
 use Rattle.machine.specs.Step.{StartsLeave, Drops, LeavesBy, LeavesFrom, Takes, Step}
 use Rattle.machine.specs.Events.{Names}
 use Rattle.machine.specs.Call.{Past, Called}
 use Rattle.machine.proofs.Values.{some_inj, unlike}
 use Rattle.legal.proofs.OrdersLemmas.{taken_is_picked, takes_next_alike}
-use Rattle.computed.proofs.ExampleStates.{group, task, ticket, memory, listed_at, young, searched, lists_of, no_marks, stuck}
-use Rattle.computed.proofs.CallExamples.{caller, past, after, stay_unmarked}
+use Rattle.computed.proofs.ExampleStates.{group, task, ticket, memory, listed_at, young, searched, lists_of, no_marks, stuck, by_turns}
+use Rattle.computed.proofs.CallExamples.{caller, past, after, stay_unmarked, stay_unhit}
 use Rattle.computed.proofs.ReliefExamples.{killed, not_taken}
 use Rattle.computed.proofs.LowExamples.{one_within, all_within, moving, full_order, lows_at_two}
 
@@ -302,8 +302,8 @@ picks = record { times = 2; none_before = too_early; first = listed_at 2 3; othe
 abbrev open_order : Order
 open_order =
     record {
-      held = record { groups = lists_of (young (listed_at 0 3 ∷ listed_at 1 3 ∷ [])) (searched 5 3 []); marks = no_marks };
-      cursors = None ∷ Some 3 ∷ None ∷ None ∷ None ∷ None ∷ [];
+      held = record { groups = lists_of (young (listed_at 0 3 ∷ listed_at 1 3 ∷ [])) (searched 5 3 []); marks = no_marks; hits = [] };
+      cursors = by_turns (None ∷ Some 3 ∷ None ∷ None ∷ None ∷ None ∷ []);
     }
 
 takes_next : TakesNext one_within (full_order None) Amount 1 open_taken open_order
@@ -316,7 +316,7 @@ takes_next = record {
   picked = record { seen = looked; picks = picks; lists = refl };
   was = refl;
   taken = refl;
-  leaves = record { fresh = None; which = which; groups = refl; size = refl; marks = λ p. stay_unmarked 10 (is_held_in one_within.pages p) (is_held_in open_taken.pages p) p };
+  leaves = record { fresh = None; which = which; groups = refl; size = refl; marks = λ p. stay_unmarked 10 (is_held_in one_within.pages p) (is_held_in open_taken.pages p) p; counts = refl; hits = stay_unhit Youngest refl one_within.pages open_taken.pages };
   moves = refl;
 }
   where
@@ -338,7 +338,7 @@ open-not_in_turn new order' stays h = unlike (is_held_in new.pages 2) stays (tak
 
 -- and no order comes of it in which /p/a's lists aged, too
 open-not_aged : TakesNext one_within (full_order None) Amount 1 open_taken
-    (record open_order { held = record { groups = lists_of (searched 5 3 (listed_at 0 3 ∷ listed_at 1 3 ∷ [])) (searched 5 3 []); marks = no_marks } }) → ⊥
+    (record open_order { held = record { groups = lists_of (searched 5 3 (listed_at 0 3 ∷ listed_at 1 3 ∷ [])) (searched 5 3 []); marks = no_marks; hits = [] } }) → ⊥
 open-not_aged h = let e : 3 ≡ 5 = ap (λ (o : Order). (gens_at o.held.groups 2).max_seq) (takes_next_alike one_within open_taken (full_order None) open_order _ Amount 1 takes_next h) in absurd (omega (arith, e))
 
 -- ---- the turn where both are within their lows
@@ -358,8 +358,8 @@ low_picks = record { times = 2; none_before = too_early; first = listed_at 0 3; 
 abbrev low_order : Order
 low_order =
     record {
-      held = record { groups = lists_of (searched 5 3 (listed_at 1 3 ∷ [])) (young (listed_at 2 3 ∷ [])); marks = no_marks };
-      cursors = None ∷ Some 2 ∷ None ∷ None ∷ None ∷ None ∷ [];
+      held = record { groups = lists_of (searched 5 3 (listed_at 1 3 ∷ [])) (young (listed_at 2 3 ∷ [])); marks = no_marks; hits = [] };
+      cursors = by_turns (None ∷ Some 2 ∷ None ∷ None ∷ None ∷ None ∷ []);
     }
 
 -- the whole call, in which `low` is counted
@@ -375,7 +375,7 @@ low-call = record {
     picked = record { seen = low_looked; picks = low_picks; lists = refl };
     was = refl;
     taken = refl;
-    leaves = record { fresh = None; which = which; groups = refl; size = refl; marks = λ p. stay_unmarked 10 (is_held_in all_within.pages p) (is_held_in low_taken.pages p) p };
+    leaves = record { fresh = None; which = which; groups = refl; size = refl; marks = λ p. stay_unmarked 10 (is_held_in all_within.pages p) (is_held_in low_taken.pages p) p; counts = refl; hits = stay_unhit Youngest refl all_within.pages low_taken.pages };
     moves = refl;
   };
   history = refl;

@@ -22,12 +22,12 @@ use Rattle.machine.specs.State.{Opening, State}
 use Rattle.machine.specs.Generations.{Gens, new_gens}
 use Rattle.machine.specs.Aging.{Seen, is_marked}
 use Rattle.machine.specs.Eviction.{old_pages, passed_by, aged_times, Picks}
-use Rattle.machine.specs.Lists.{Order, seen_of, with_seen, is_fresh, is_in_bits, Orders}
+use Rattle.machine.specs.Lists.{Order, seen_of, with_seen, is_fresh, is_in_bits, Orders, is_marking, Youngest}
 use Rattle.machine.specs.Call.{Past, Called}
 use Rattle.machine.proofs.Values.{unlike}
 use Rattle.legal.proofs.OrdersLemmas.{taken_is_picked, orders_alike}
-use Rattle.computed.proofs.ExampleStates.{group, task, frame, ticket, shows, below, max_of, single, memory, listed_at, young, searched}
-use Rattle.computed.proofs.CallExamples.{caller, past, after, not_new, other_number, none_marked, stay_unmarked}
+use Rattle.computed.proofs.ExampleStates.{group, task, frame, ticket, shows, below, max_of, single, memory, listed_at, young, searched, by_turns}
+use Rattle.computed.proofs.CallExamples.{caller, past, after, not_new, other_number, none_marked, stay_unmarked, stay_unhit, own_unhit}
 
 -- ---- the states
 
@@ -79,7 +79,7 @@ abbrev marks_of : Bool → Bool → List Bool
 marks_of zero_is two_is = zero_is ∷ false ∷ two_is ∷ false ∷ false ∷ false ∷ false ∷ false ∷ []
 
 abbrev order : Gens → Bool → Bool → Option ℕ → Order
-order gens zero_is two_is served_last = record { held = record { groups = new_gens ∷ gens ∷ []; marks = marks_of zero_is two_is }; cursors = None ∷ served_last ∷ [] }
+order gens zero_is two_is served_last = record { held = record { groups = new_gens ∷ gens ∷ []; marks = marks_of zero_is two_is; hits = [] }; cursors = by_turns (None ∷ served_last ∷ []) }
 
 -- ---- the history
 
@@ -189,7 +189,7 @@ writes-0 = record {
     answers = refl;
     state = refl;
   };
-  order = (record { fresh = Some 0; which = which; groups = refl; size = refl; marks = λ p. stay_unmarked 8 (is_held_in none.pages p) (is_held_in one.pages p) p }, refl);
+  order = (record { fresh = Some 0; which = which; groups = refl; size = refl; marks = λ p. stay_unmarked 8 (is_held_in none.pages p) (is_held_in one.pages p) p; counts = refl; hits = stay_unhit Youngest refl none.pages one.pages }, refl);
   history = refl;
   passes = refl;
 }
@@ -212,7 +212,7 @@ writes-1 = record {
     answers = refl;
     state = refl;
   };
-  order = (record { fresh = Some 1; which = which; groups = refl; size = refl; marks = λ p. stay_unmarked 8 (is_held_in one.pages p) (is_held_in two.pages p) p }, refl);
+  order = (record { fresh = Some 1; which = which; groups = refl; size = refl; marks = λ p. stay_unmarked 8 (is_held_in one.pages p) (is_held_in two.pages p) p; counts = refl; hits = stay_unhit Youngest refl one.pages two.pages }, refl);
   history = refl;
   passes = refl;
 }
@@ -236,7 +236,7 @@ writes-2 = record {
     answers = refl;
     state = refl;
   };
-  order = (record { fresh = Some 2; which = which; groups = refl; size = refl; marks = λ p. stay_unmarked 8 (is_held_in two.pages p) (is_held_in three.pages p) p }, refl);
+  order = (record { fresh = Some 2; which = which; groups = refl; size = refl; marks = λ p. stay_unmarked 8 (is_held_in two.pages p) (is_held_in three.pages p) p; counts = refl; hits = stay_unhit Youngest refl two.pages three.pages }, refl);
   history = refl;
   passes = refl;
 }
@@ -263,7 +263,7 @@ two_stay zero_is two_is before after first third (suc (suc (suc p))) = stay_unma
 reads-0 : Called wrote_2 caller (read 0) (hit 0) read_0
 reads-0 = record {
   steps = (refl, refl);
-  order = (record { fresh = None; which = λ p. not_new (is_held_in three.pages p); groups = refl; size = refl; marks = two_stay false false three.pages three.pages refl refl }, refl);
+  order = (record { fresh = None; which = λ p. not_new (is_held_in three.pages p); groups = refl; size = refl; marks = two_stay false false three.pages three.pages refl refl; counts = refl; hits = stay_unhit Youngest refl three.pages three.pages }, refl);
   history = refl;
   passes = refl;
 }
@@ -276,9 +276,9 @@ reads-not_marked new p is call = unlike _ is (ap (λ (o : Order). is_marked o.he
     same = sym (orders_alike three new.state wrote_2.order new.order wrote_2.order (read 0) (hit 0) call.order (subst (λ (s : State). Orders three wrote_2.order (read 0) (hit 0) s wrote_2.order) (sym call.steps.1) reads-0.order))
 
 -- marks of pages 0 and 2 become others by these bits, where no other page is marked before or after
-marks_by : (pages : Pages) (bits : ℕ) (zero_was two_was zero_is two_is : Bool) → zero_is ≡ (zero_was || there_and (is_in_bits 0 bits) (page_at pages 0)) → there_and (is_in_bits 0 bits) (page_at pages 1) ≡ false
-    → two_is ≡ (two_was || there_and (is_in_bits 0 bits) (page_at pages 2)) → there_and (is_in_bits 0 bits) (page_at pages 3) ≡ false → ((p : ℕ) → page_at pages (suc (suc (suc (suc p)))) ≡ None) → (p : ℕ)
-    → is_marked (marks_of zero_is two_is) p ≡ (is_marked (marks_of zero_was two_was) p || there_and (is_in_bits 0 bits) (page_at pages p))
+marks_by : (pages : Pages) (bits : ℕ) (zero_was two_was zero_is two_is : Bool) → zero_is ≡ (zero_was || is_marking Own (is_in_bits 0 bits) 0 (page_at pages 0)) → is_marking Own (is_in_bits 0 bits) 0 (page_at pages 1) ≡ false
+    → two_is ≡ (two_was || is_marking Own (is_in_bits 0 bits) 0 (page_at pages 2)) → is_marking Own (is_in_bits 0 bits) 0 (page_at pages 3) ≡ false → ((p : ℕ) → page_at pages (suc (suc (suc (suc p)))) ≡ None) → (p : ℕ)
+    → is_marked (marks_of zero_is two_is) p ≡ (is_marked (marks_of zero_was two_was) p || is_marking Own (is_in_bits 0 bits) 0 (page_at pages p))
 marks_by pages bits zero_was two_was zero_is two_is at_0 at_1 at_2 at_3 no_more zero = at_0
 marks_by pages bits zero_was two_was zero_is two_is at_0 at_1 at_2 at_3 no_more (suc zero) = sym at_1
 marks_by pages bits zero_was two_was zero_is two_is at_0 at_1 at_2 at_3 no_more (suc (suc zero)) = at_2
@@ -289,7 +289,7 @@ marks_by pages bits zero_was two_was zero_is two_is at_0 at_1 at_2 at_3 no_more 
 merges-0 : Called read_0 caller (merge 1) reply.Ok merged_0
 merges-0 = record {
   steps = refl;
-  order = (record { groups = refl; size = refl; marks = marks_by three.pages 1 false false true false refl refl refl refl (λ p. refl) }, refl);
+  order = (record { groups = refl; size = refl; marks = marks_by three.pages 1 false false true false refl refl refl refl (λ p. refl); counts = refl; hits = own_unhit (is_in_bits 0 1) read_0.order.held.marks three.pages }, refl);
   history = refl;
   passes = refl;
 }
@@ -340,7 +340,7 @@ takes-1 = record {
     picked = record { seen = looked_1; picks = picks-1; lists = refl };
     was = refl;
     taken = refl;
-    leaves = record { fresh = None; which = which; groups = refl; size = refl; marks = λ p. stay_unmarked 8 (is_held_in three.pages p) (is_held_in (with_one (Going 1 0 5)).pages p) p };
+    leaves = record { fresh = None; which = which; groups = refl; size = refl; marks = λ p. stay_unmarked 8 (is_held_in three.pages p) (is_held_in (with_one (Going 1 0 5)).pages p) p; counts = refl; hits = stay_unhit Youngest refl three.pages (with_one (Going 1 0 5)).pages };
     moves = refl;
   };
   history = refl;
@@ -380,7 +380,7 @@ leaves-1 = record {
     answers = refl;
     state = refl;
   };
-  order = (record { fresh = None; which = which; groups = refl; size = refl; marks = λ p. stay_unmarked 8 (is_held_in took_1.state.pages p) (is_held_in left_1.state.pages p) p }, refl);
+  order = (record { fresh = None; which = which; groups = refl; size = refl; marks = λ p. stay_unmarked 8 (is_held_in took_1.state.pages p) (is_held_in left_1.state.pages p) p; counts = refl; hits = stay_unhit Youngest refl took_1.state.pages left_1.state.pages }, refl);
   history = refl;
   passes = refl;
 }
@@ -406,7 +406,7 @@ writes-3 = record {
     answers = refl;
     state = refl;
   };
-  order = (record { fresh = Some 3; which = which; groups = refl; size = refl; marks = λ p. stay_unmarked 8 (is_held_in left_1.state.pages p) (is_held_in wrote_3.state.pages p) p }, refl);
+  order = (record { fresh = Some 3; which = which; groups = refl; size = refl; marks = λ p. stay_unmarked 8 (is_held_in left_1.state.pages p) (is_held_in wrote_3.state.pages p) p; counts = refl; hits = stay_unhit Youngest refl left_1.state.pages wrote_3.state.pages }, refl);
   history = refl;
   passes = refl;
 }
@@ -430,7 +430,7 @@ marks-has new call = call.order.0.marks 3
 reads-2 : Called wrote_3 caller (read 2) (hit 2) read_2
 reads-2 = record {
   steps = (refl, refl);
-  order = (record { fresh = None; which = λ p. not_new (is_held_in wrote_3.state.pages p); groups = refl; size = refl; marks = two_stay false false wrote_3.state.pages wrote_3.state.pages refl refl }, refl);
+  order = (record { fresh = None; which = λ p. not_new (is_held_in wrote_3.state.pages p); groups = refl; size = refl; marks = two_stay false false wrote_3.state.pages wrote_3.state.pages refl refl; counts = refl; hits = stay_unhit Youngest refl wrote_3.state.pages wrote_3.state.pages }, refl);
   history = refl;
   passes = refl;
 }
@@ -439,7 +439,7 @@ reads-2 = record {
 merges-2 : Called read_2 caller (merge 4) reply.Ok merged_2
 merges-2 = record {
   steps = refl;
-  order = (record { groups = refl; size = refl; marks = marks_by read_2.state.pages 4 false false false true refl refl refl refl (λ p. refl) }, refl);
+  order = (record { groups = refl; size = refl; marks = marks_by read_2.state.pages 4 false false false true refl refl refl refl (λ p. refl); counts = refl; hits = own_unhit (is_in_bits 0 4) read_2.order.held.marks read_2.state.pages }, refl);
   history = refl;
   passes = refl;
 }
@@ -448,7 +448,7 @@ merges-2 = record {
 reads-0_again : Called merged_2 caller (read 0) (hit 0) read_0_again
 reads-0_again = record {
   steps = (refl, refl);
-  order = (record { fresh = None; which = λ p. not_new (is_held_in merged_2.state.pages p); groups = refl; size = refl; marks = two_stay false true merged_2.state.pages merged_2.state.pages refl refl }, refl);
+  order = (record { fresh = None; which = λ p. not_new (is_held_in merged_2.state.pages p); groups = refl; size = refl; marks = two_stay false true merged_2.state.pages merged_2.state.pages refl refl; counts = refl; hits = stay_unhit Youngest refl merged_2.state.pages merged_2.state.pages }, refl);
   history = refl;
   passes = refl;
 }
@@ -457,7 +457,7 @@ reads-0_again = record {
 merges-both : Called read_0_again caller (merge 5) reply.Ok merged_both
 merges-both = record {
   steps = refl;
-  order = (record { groups = refl; size = refl; marks = marks_by read_0_again.state.pages 5 false true true true refl refl refl refl (λ p. refl) }, refl);
+  order = (record { groups = refl; size = refl; marks = marks_by read_0_again.state.pages 5 false true true true refl refl refl refl (λ p. refl); counts = refl; hits = own_unhit (is_in_bits 0 5) read_0_again.order.held.marks read_0_again.state.pages }, refl);
   history = refl;
   passes = refl;
 }
@@ -498,7 +498,7 @@ takes-3 = record {
     picked = record { seen = looked_3; picks = picks-3; lists = refl };
     was = refl;
     taken = refl;
-    leaves = record { fresh = None; which = which; groups = refl; size = refl; marks = λ p. stay_unmarked 8 (is_held_in merged_both.state.pages p) (is_held_in took_3.state.pages p) p };
+    leaves = record { fresh = None; which = which; groups = refl; size = refl; marks = λ p. stay_unmarked 8 (is_held_in merged_both.state.pages p) (is_held_in took_3.state.pages p) p; counts = refl; hits = stay_unhit Youngest refl merged_both.state.pages took_3.state.pages };
     moves = refl;
   };
   history = refl;

@@ -2,6 +2,8 @@
 use Rattle.std.proofs.Common.{◌≡◌, ℕ, true, false, List, [], ◌∷◌, ◌++◌, Some, None, refl, ap}
 use Rattle.std.specs.Prelude.{codes, replicate}
 use Rattle.std.specs.Fmt.{digits}
+use Rattle.machine.specs.declared.config.Placement.TheVariants.{Own, Linux}
+use Rattle.machine.specs.declared.config.Placement.{Placement}
 use Rattle.machine.specs.declared.amount.Amount.TheVariants.{Max}
 use Rattle.machine.specs.declared.control.ControlFile.TheVariants as file
 use Rattle.machine.specs.declared.event.Cause.TheVariants as cause
@@ -21,7 +23,7 @@ use Rattle.machine.specs.Pages.{Held, Away}
 use Rattle.machine.specs.Counts.{Counted, count_of, no_limits, no_counts}
 use Rattle.machine.specs.Tasks.{Tasks, task_of}
 use Rattle.machine.specs.State.{State}
-use Rattle.machine.specs.Control.{flag_of, file_named, has_file, text_of}
+use Rattle.machine.specs.Control.{flag_of, flag_written, file_named, has_file, text_of}
 use Rattle.machine.specs.Printed.{group_kill_text}
 use Rattle.machine.specs.Refusals.{refusal}
 use Rattle.machine.specs.Victim.{is_candidate, flag_at, kill_group, kill_group_of, killed_with, counts_of_group_kill}
@@ -150,28 +152,34 @@ dies-not_exited = refl
 -- ---- what is counted
 
 -- a task of /a/b and one of /a/c die with /a, which is the limit too: each is counted at its own group, and the kill of the group once, at /a
-counts-limit : counts_of_group_kill groups (None ∷ Some (task_of 2 Live) ∷ Some (task_of 3 Live) ∷ []) 1 1
+counts-limit : counts_of_group_kill Own groups (None ∷ Some (task_of 2 Live) ∷ Some (task_of 3 Live) ∷ []) 1 2 1
     ≡ count_of 1 key.Oom ∷ count_of 2 key.OomKill ∷ count_of 3 key.OomKill ∷ count_of 1 key.OomGroupKill ∷ []
 unfolding chain_up chain under_at
 counts-limit = refl
 
 -- where a frame was wanted, `oom` is counted at the root, and all else as before
-counts-frame : counts_of_group_kill groups (None ∷ Some (task_of 2 Live) ∷ Some (task_of 3 Live) ∷ []) 0 1
+counts-frame : counts_of_group_kill Own groups (None ∷ Some (task_of 2 Live) ∷ Some (task_of 3 Live) ∷ []) 0 2 1
     ≡ count_of 0 key.Oom ∷ count_of 2 key.OomKill ∷ count_of 3 key.OomKill ∷ count_of 1 key.OomGroupKill ∷ []
 unfolding chain_up chain under_at
 counts-frame = refl
 
 -- the tasks come by number, whatever their groups
-counts-order : counts_of_group_kill groups (None ∷ Some (task_of 3 Live) ∷ Some (task_of 2 Live) ∷ []) 1 1
+counts-order : counts_of_group_kill Own groups (None ∷ Some (task_of 3 Live) ∷ Some (task_of 2 Live) ∷ []) 1 2 1
     ≡ count_of 1 key.Oom ∷ count_of 3 key.OomKill ∷ count_of 2 key.OomKill ∷ count_of 1 key.OomGroupKill ∷ []
 unfolding chain_up chain under_at
 counts-order = refl
+
+-- by Linux's placement the victim is counted once more, before all of them: here task 2, of /a/c
+counts-again : counts_of_group_kill Linux groups (None ∷ Some (task_of 2 Live) ∷ Some (task_of 3 Live) ∷ []) 1 2 1
+    ≡ count_of 1 key.Oom ∷ count_of 3 key.OomKill ∷ count_of 2 key.OomKill ∷ count_of 3 key.OomKill ∷ count_of 1 key.OomGroupKill ∷ []
+unfolding chain_up chain under_at
+counts-again = refl
 
 -- what a kill of /a/b counts where room was wanted under /a: two tasks died, and not those that had ended
 abbrev pub four : List Counted
 four = count_of 1 key.Oom ∷ count_of 4 key.OomKill ∷ count_of 4 key.OomKill ∷ count_of 2 key.OomGroupKill ∷ []
 
-counts-running : counts_of_group_kill groups tasks 1 2 ≡ four
+counts-running : counts_of_group_kill Own groups tasks 1 1 2 ≡ four
 unfolding chain_up chain under_at
 counts-running = refl
 
@@ -276,6 +284,89 @@ reads-not_max = refl
 -- and no space behind
 reads-not_space : flag_of (codes "1 ") ≡ None
 reads-not_space = refl
+
+-- as Linux reads it, zeros may be in front
+spelled-zero_in_front : flag_written Linux (codes "01") ≡ Some Whole
+spelled-zero_in_front = refl
+
+spelled-two_zeros_in_front : flag_written Linux (codes "001") ≡ Some Whole
+spelled-two_zeros_in_front = refl
+
+-- and the mark of base 16
+spelled-base : flag_written Linux (codes "0x1") ≡ Some Whole
+spelled-base = refl
+
+spelled-large_base : flag_written Linux (codes "0X1") ≡ Some Whole
+spelled-large_base = refl
+
+-- and a sign before all of it
+spelled-sign : flag_written Linux (codes "+1") ≡ Some Whole
+spelled-sign = refl
+
+spelled-sign_and_base : flag_written Linux (codes "+0x1") ≡ Some Whole
+spelled-sign_and_base = refl
+
+-- zero is written so, too
+spelled-two_zeros : flag_written Linux (codes "00") ≡ Some Single
+spelled-two_zeros = refl
+
+spelled-base_zero : flag_written Linux (codes "0x0") ≡ Some Single
+spelled-base_zero = refl
+
+-- and it has a minus sign
+spelled-minus_zero : flag_written Linux (codes "-0") ≡ Some Single
+spelled-minus_zero = refl
+
+spelled-minus_base_zeros : flag_written Linux (codes "-0x00") ≡ Some Single
+spelled-minus_base_zeros = refl
+
+-- but 010 is eight
+spelled-not_octal : flag_written Linux (codes "010") ≡ None
+spelled-not_octal = refl
+
+-- the mark of a base is no number
+spelled-not_base_alone : flag_written Linux (codes "0x") ≡ None
+spelled-not_base_alone = refl
+
+-- nor are sixteen, one thousand and one in base 2 a flag
+spelled-not_sixteen : flag_written Linux (codes "0x10") ≡ None
+spelled-not_sixteen = refl
+
+spelled-not_letter : flag_written Linux (codes "1k") ≡ None
+spelled-not_letter = refl
+
+spelled-not_base_two : flag_written Linux (codes "0b1") ≡ None
+spelled-not_base_two = refl
+
+-- nor is a word
+spelled-not_word : flag_written Linux (codes "one") ≡ None
+spelled-not_word = refl
+
+-- minus one is not one
+spelled-not_minus_one : flag_written Linux (codes "-1") ≡ None
+spelled-not_minus_one = refl
+
+-- there is one sign at most
+spelled-not_two_signs : flag_written Linux (codes "++1") ≡ None
+spelled-not_two_signs = refl
+
+spelled-not_both_signs : flag_written Linux (codes "+-1") ≡ None
+spelled-not_both_signs = refl
+
+-- and a number is not empty
+spelled-not_empty : flag_written Linux (codes "") ≡ None
+spelled-not_empty = refl
+
+-- no other number is a flag, in either base
+spelled-not_two : flag_written Linux (codes "2") ≡ None
+spelled-not_two = refl
+
+spelled-not_base_with_two : flag_written Linux (codes "0x2") ≡ None
+spelled-not_base_with_two = refl
+
+-- and none of these counts by our own placement
+spelled-by_own_placement : flag_written Own (codes "01") ≡ None
+spelled-by_own_placement = refl
 
 -- a kill is printed with its victim, and then with how many died
 prints : group_kill_text 1 2 ≡ codes "killed group 1 2" ++ 10 ∷ []

@@ -11,7 +11,7 @@ use Rattle.machine.specs.Reclaim.{is_unprotected, is_takeable, has_takeable, is_
 use Rattle.machine.specs.Victim.{is_candidate, is_worse}
 use Rattle.machine.specs.Eviction.{old_pages, aged_times}
 use Rattle.machine.specs.Lists.{Order, served, seen_of, PicksOf}
-use Rattle.computed.proofs.ExampleStates.{group, tree, max_of, min_of, memory, of_file, opening, listed_at, young, searched, ordered, busy, busy_order, stuck, stuck_order}
+use Rattle.computed.proofs.ExampleStates.{group, tree, max_of, min_of, memory, of_file, opening, listed_at, young, searched, ordered, busy, busy_order, stuck, stuck_order, by_turns}
 
 -- ---- what is takeable
 
@@ -95,7 +95,7 @@ stands-no_frame = refl
 -- ---- who gives a page
 
 -- /p/a is served again where nobody else has a page to give
-serves-again : served busy (record busy_order { cursors = Some 2 ∷ [] }) Amount 0 ≡ Some 2
+serves-again : served busy (record busy_order { cursors = by_turns (Some 2 ∷ []) }) Amount 0 ≡ Some 2
 unfolding chain_up chain under_at chain_below effective_along preorder_to
 serves-again = refl
 
@@ -104,12 +104,12 @@ abbrev both : State
 both = record stuck { opening = opening; pages = Some (memory 2 (Held 0)) ∷ Some (memory 3 (Held 1)) ∷ [] }
 
 -- else they give a page in turn
-serves-turn : served both (record busy_order { cursors = Some 2 ∷ [] }) Amount 0 ≡ Some 3
+serves-turn : served both (record busy_order { cursors = by_turns (Some 2 ∷ []) }) Amount 0 ≡ Some 3
 unfolding chain_up chain under_at chain_below effective_along preorder_to
 serves-turn = refl
 
 -- each target has a cursor of its own
-serves-own_cursor : served both (record busy_order { cursors = Some 2 ∷ None ∷ [] }) Amount 1 ≡ Some 2
+serves-own_cursor : served both (record busy_order { cursors = by_turns (Some 2 ∷ None ∷ []) }) Amount 1 ≡ Some 2
 unfolding chain_up chain under_at chain_below effective_along preorder_to
 serves-own_cursor = refl
 

@@ -16,11 +16,11 @@ use Rattle.machine.specs.State.{State}
 use Rattle.machine.specs.Step.{still, Drops, StartsLeave, LeavesBy, LeavesFrom}
 use Rattle.machine.specs.Slots.{at}
 use Rattle.machine.specs.Victim.{is_candidate, is_worse}
-use Rattle.machine.specs.Lists.{Order, is_fresh}
+use Rattle.machine.specs.Lists.{Order, is_fresh, Youngest}
 use Rattle.machine.proofs.Values.{unlike}
 use Rattle.machine.specs.Call.{Past, Called}
 use Rattle.computed.proofs.ExampleStates.{group, task, ticket, tree, shows, memory, pages, listed_at, young, lists_of, busy, busy_order, stuck, stuck_order}
-use Rattle.computed.proofs.CallExamples.{caller, past, after, stay_unmarked}
+use Rattle.computed.proofs.CallExamples.{caller, past, after, stay_unmarked, stay_unhit}
 use Rattle.computed.proofs.TurnExamples.{taken, taken_order, takes, takes-not_newer}
 use Rattle.machine.specs.Counts.{no_counts}
 
@@ -105,7 +105,7 @@ killed = record stuck {
 
 -- they leave their list, and no list ages
 abbrev killed_order : Order
-killed_order = record stuck_order { held = record { groups = lists_of (young (listed_at 0 3 ∷ [])) (young []); marks = stuck_order.held.marks } }
+killed_order = record stuck_order { held = record { groups = lists_of (young (listed_at 0 3 ∷ [])) (young []); marks = stuck_order.held.marks; hits = [] } }
 
 -- the reply names it, and what stands in `killed` comes after
 kill : Called (past stuck stuck_order) caller relieve (reply.KilledTask (task 2)) (after (past stuck stuck_order) relieve (reply.KilledTask (task 2)) killed killed_order)
@@ -116,7 +116,7 @@ kill = record {
     refl,
     record { none = none; others = others; pages = stays; ends = ends; stays = other_tasks; state = refl },
   );
-  order = (record { fresh = None; which = which; groups = refl; size = refl; marks = λ p. stay_unmarked 6 (is_held_in stuck.pages p) (is_held_in killed.pages p) p }, refl);
+  order = (record { fresh = None; which = which; groups = refl; size = refl; marks = λ p. stay_unmarked 6 (is_held_in stuck.pages p) (is_held_in killed.pages p) p; counts = refl; hits = stay_unhit Youngest refl stuck.pages killed.pages }, refl);
   history = refl;
   passes = refl;
 }
@@ -174,7 +174,7 @@ kill-not_first t new call = not_taken busy new.state call.steps.p call.steps.pag
 abbrev going : Past
 going =
     past (record stuck { pages = Some (memory 2 (Held 0)) ∷ Some (memory 3 (Going 1 0 0)) ∷ Some (memory 3 (Held 2)) ∷ [] })
-    (record stuck_order { held = record { groups = lists_of (young (listed_at 0 3 ∷ [])) (young (listed_at 2 3 ∷ [])); marks = stuck_order.held.marks } })
+    (record stuck_order { held = record { groups = lists_of (young (listed_at 0 3 ∷ [])) (young (listed_at 2 3 ∷ [])); marks = stuck_order.held.marks; hits = [] } })
 
 -- nor while a page is in transfer that may come free
 kill-not_before_end : (t : ℕ) (new : Past) → Called going caller relieve (reply.KilledTask (task t)) new → ⊥

@@ -24,7 +24,7 @@ use Rattle.machine.specs.Pages.{Held, Coming, Going, Away, Page, Pages, page_at,
 use Rattle.machine.specs.Counts.{no_limits, limits_at, local, total, over_at, no_counts}
 use Rattle.machine.specs.Tasks.{Tasks, task_of}
 use Rattle.machine.specs.Protection.{effective_along}
-use Rattle.machine.specs.Order.{asking_order}
+use Rattle.machine.specs.Order.{Cursor, no_cursor, one_page_of, asking_order}
 use Rattle.machine.specs.State.{State, first_state, usage}
 use Rattle.machine.specs.Access.{meets, charges}
 use Rattle.machine.specs.Reclaim.{stands}
@@ -32,13 +32,13 @@ use Rattle.machine.specs.Refusals.{refusal}
 use Rattle.machine.specs.Step.{regrouped, shown_of, Step}
 use Rattle.machine.specs.Generations.{Gens, new_gens, taken_over}
 use Rattle.machine.specs.Aging.{is_marked}
-use Rattle.machine.specs.Lists.{Order, served, is_fresh, Orders}
+use Rattle.machine.specs.Lists.{Order, served, is_fresh, Orders, SecondYoungest}
 use Rattle.machine.specs.Call.{Past, is_full_for, Called, grows}
 use Rattle.machine.proofs.Values.{some_inj, never_some, unlike}
 use Rattle.machine.proofs.RemovedLemmas.{usage-removed}
-use Rattle.computed.proofs.ExampleStates.{group, task, ticket, shows, below, tree, memory, of_file, max_of, single, opening, busy, listed_at, young, searched, none_served}
+use Rattle.computed.proofs.ExampleStates.{group, task, ticket, shows, below, tree, memory, of_file, max_of, single, opening, busy, listed_at, young, searched, by_turns, none_served}
 use Rattle.computed.proofs.HeldExamples.{page_standing, unlike_number, unlike_mark, unlike_cursor, set_is_not_clear}
-use Rattle.computed.proofs.CallExamples.{caller, past, after, not_new, other_number, stay_unmarked}
+use Rattle.computed.proofs.CallExamples.{caller, past, after, not_new, other_number, stay_unmarked, stay_unhit}
 
 abbrev rmdir : ℕ → Event
 rmdir g = event.Rmdir (group g)
@@ -410,15 +410,15 @@ again-parent = refl
 abbrev marks : List Bool
 marks = false ∷ true ∷ false ∷ false ∷ false ∷ false ∷ false ∷ true ∷ false ∷ false ∷ false ∷ false ∷ false ∷ []
 
-abbrev order_of : Gens → Gens → List (Option ℕ) → Order
-order_of one three cursors = record { held = record { groups = new_gens ∷ one ∷ young (listed_at 0 3 ∷ []) ∷ three ∷ new_gens ∷ new_gens ∷ []; marks = marks }; cursors = cursors }
+abbrev order_of : Gens → Gens → List Cursor → Order
+order_of one three cursors = record { held = record { groups = new_gens ∷ one ∷ young (listed_at 0 3 ∷ []) ∷ three ∷ new_gens ∷ new_gens ∷ []; marks = marks; hits = [] }; cursors = cursors }
 
 -- /p has a page in each generation, and /p/b page 9 in its oldest and page 1 in its youngest. For the root and for /p/b itself as targets /p/b was served last
 abbrev one_before : Gens
 one_before = searched 5 2 (listed_at 5 2 ∷ listed_at 6 3 ∷ listed_at 7 4 ∷ listed_at 8 5 ∷ [])
 
-abbrev cursors_before : List (Option ℕ)
-cursors_before = Some 3 ∷ Some 2 ∷ None ∷ Some 3 ∷ None ∷ None ∷ []
+abbrev cursors_before : List Cursor
+cursors_before = by_turns (Some 3 ∷ Some 2 ∷ None ∷ Some 3 ∷ None ∷ None ∷ [])
 
 abbrev left_order : Order
 left_order = order_of one_before (searched 4 1 (listed_at 9 1 ∷ listed_at 1 4 ∷ [])) cursors_before
@@ -427,8 +427,8 @@ left_order = order_of one_before (searched 4 1 (listed_at 9 1 ∷ listed_at 1 4 
 abbrev one_after : Gens
 one_after = searched 5 2 (listed_at 5 2 ∷ listed_at 6 3 ∷ listed_at 7 4 ∷ listed_at 9 4 ∷ listed_at 1 4 ∷ listed_at 8 5 ∷ [])
 
-abbrev cursors_after : List (Option ℕ)
-cursors_after = Some 3 ∷ Some 2 ∷ None ∷ None ∷ None ∷ None ∷ []
+abbrev cursors_after : List Cursor
+cursors_after = by_turns (Some 3 ∷ Some 2 ∷ None ∷ None ∷ None ∷ None ∷ [])
 
 abbrev removed_order : Order
 removed_order = order_of one_after (searched 4 1 []) cursors_after
@@ -476,7 +476,7 @@ hands_over-cursor_stays : NotHanded (order_of one_after (searched 4 1 []) none_s
 hands_over-cursor_stays = unlike_cursor left removed left_order removed_order _ (rmdir 3) reply.Ok hands_over 1 (λ e. omega (arith, e))
 
 -- nor where it names the removed group
-hands_over-names_stay : NotHanded (order_of one_after (searched 4 1 []) (None ∷ Some 2 ∷ None ∷ None ∷ None ∷ None ∷ []))
+hands_over-names_stay : NotHanded (order_of one_after (searched 4 1 []) (by_turns (None ∷ Some 2 ∷ None ∷ None ∷ None ∷ None ∷ [])))
 hands_over-names_stay = unlike_cursor left removed left_order removed_order _ (rmdir 3) reply.Ok hands_over 0 (λ e. omega (arith, e))
 
 -- each type by itself: file pages 3 and 4 go behind file page 2, and page 1 of memory behind none
@@ -488,22 +488,22 @@ hands_over-types = refl
 -- ---- whose turn it is
 
 -- before the removal the groups behind /p/b would be asked first
-asks-before : asking_order left.tree 0 (Some 3) ≡ 5 ∷ 0 ∷ 1 ∷ 2 ∷ 3 ∷ []
+asks-before : asking_order false left.tree 0 (one_page_of 3) ≡ 5 ∷ 0 ∷ 1 ∷ 2 ∷ 3 ∷ []
 unfolding preorder_to
 asks-before = refl
 
 -- after it a cursor that names it stands for none served: it begins at the target
-asks-after : asking_order removed.tree 0 (Some 3) ≡ asking_order removed.tree 0 None
+asks-after : asking_order false removed.tree 0 (one_page_of 3) ≡ asking_order false removed.tree 0 no_cursor
 unfolding preorder_to
 asks-after = refl
 
 -- and the removed group is not asked
-asks-not_removed : asking_order removed.tree 0 (Some 3) ≡ 0 ∷ 1 ∷ 2 ∷ 5 ∷ []
+asks-not_removed : asking_order false removed.tree 0 (one_page_of 3) ≡ 0 ∷ 1 ∷ 2 ∷ 5 ∷ []
 unfolding preorder_to
 asks-not_removed = refl
 
 -- a later group of the path is not the one that was served
-asks-again : asking_order again.tree 0 (Some 3) ≡ 0 ∷ 1 ∷ 2 ∷ 6 ∷ 5 ∷ []
+asks-again : asking_order false again.tree 0 (one_page_of 3) ≡ 0 ∷ 1 ∷ 2 ∷ 6 ∷ 5 ∷ []
 unfolding preorder_to
 asks-again = refl
 
@@ -560,7 +560,7 @@ abbrev arrived_order : Order
 arrived_order = order_of (searched 5 2 (listed_at 5 2 ∷ listed_at 6 3 ∷ listed_at 7 4 ∷ listed_at 9 4 ∷ listed_at 1 4 ∷ listed_at 2 4 ∷ listed_at 8 5 ∷ [])) (searched 4 1 []) cursors_after
 
 arrives : Orders removed removed_order (event.Arrived (ticket 7) []) reply.Ok arrived arrived_order
-arrives = (record { fresh = Some 2; which = which; groups = refl; size = refl; marks = stay }, refl)
+arrives = (record { fresh = Some 2; which = which; groups = refl; size = refl; marks = stay; counts = refl; hits = stay_unhit SecondYoungest refl removed.pages arrived.pages }, refl)
   where
     which : (p : ℕ) → is_number (Some 2) p ≡ is_fresh removed_pages arrived.pages p
     which zero = refl

@@ -24,14 +24,14 @@ use Rattle.machine.specs.Step.{still, in_frame, on_block, Step}
 use Rattle.machine.specs.Victim.{is_worse}
 use Rattle.machine.specs.Generations.{new_gens}
 use Rattle.machine.specs.Aging.{is_marked}
-use Rattle.machine.specs.Lists.{Order, is_fresh}
+use Rattle.machine.specs.Lists.{Order, is_fresh, Youngest}
 use Rattle.machine.specs.Call.{Past, is_full_for, Called, grows}
 use Rattle.machine.proofs.Values.{some_inj, never_some}
 use Rattle.machine.proofs.MappingLemmas.{shown_once, mappers-shows}
 use Rattle.machine.proofs.SlotLemmas.{one_if}
 use Rattle.computed.proofs.ExampleStates.{group, task, frame, ticket, shows, memory, pages, tables, max_of, opening, busy, busy_order, listed_at, young, ordered, no_marks, none_served}
 use Rattle.computed.proofs.HeldExamples.{marks_of, one_marked}
-use Rattle.computed.proofs.CallExamples.{caller, past, after, not_new, other_number, stay_unmarked}
+use Rattle.computed.proofs.CallExamples.{caller, past, after, not_new, other_number, stay_unmarked, stay_unhit}
 
 -- ---- events, on the busy state: tasks 1 of /p/a and 2 of /p/b run, 3 was killed, and 4 exited
 
@@ -676,14 +676,14 @@ no_frame answer new step = step.0
 
 -- the copy is the one page on the lists of /r, in its youngest generation, unmarked. No other list changes
 abbrev copied_order : Order
-copied_order = record { held = record { groups = new_gens ∷ new_gens ∷ young (listed_at 1 3 ∷ listed_at 0 3 ∷ []) ∷ new_gens ∷ new_gens ∷ young (listed_at 5 3 ∷ []) ∷ []; marks = no_marks }; cursors = none_served }
+copied_order = record { held = record { groups = new_gens ∷ new_gens ∷ young (listed_at 1 3 ∷ listed_at 0 3 ∷ []) ∷ new_gens ∷ new_gens ∷ young (listed_at 5 3 ∷ []) ∷ []; marks = no_marks; hits = [] }; cursors = none_served }
 
 -- the call of the copy comes to this state and order
 call-copies : Called (past moved busy_order) caller (write 2 0 7) (reply.Done 7 None) (after (past moved busy_order) (write 2 0 7) (reply.Done 7 None) copied copied_order)
 unfolding chain_up chain under_at over_at
 call-copies = record {
   steps = copies;
-  order = (record { fresh = Some 5; which = which; groups = refl; size = refl; marks = λ p. stay_unmarked 10 (is_held_in pages p) (is_held_in copied.pages p) p }, refl);
+  order = (record { fresh = Some 5; which = which; groups = refl; size = refl; marks = λ p. stay_unmarked 10 (is_held_in pages p) (is_held_in copied.pages p) p; counts = refl; hits = stay_unhit Youngest refl pages copied.pages }, refl);
   history = refl;
   passes = refl;
 }
@@ -701,7 +701,7 @@ call-copies = record {
 call-forks : Called (past busy busy_order) caller (fork 1 5) reply.Ok (after (past busy busy_order) (fork 1 5) reply.Ok forked busy_order)
 call-forks = record {
   steps = forks;
-  order = (record { fresh = None; which = λ p. not_new (is_held_in pages p); groups = refl; size = refl; marks = λ p. stay_unmarked 10 (is_held_in pages p) (is_held_in pages p) p }, refl);
+  order = (record { fresh = None; which = λ p. not_new (is_held_in pages p); groups = refl; size = refl; marks = λ p. stay_unmarked 10 (is_held_in pages p) (is_held_in pages p) p; counts = refl; hits = stay_unhit Youngest refl pages pages }, refl);
   history = refl;
   passes = refl;
 }
@@ -718,7 +718,7 @@ marked_order = one_marked (young (listed_at 1 3 ∷ listed_at 0 3 ∷ [])) new_g
 call-frees : Called (past busy marked_order) caller (free 1 1) reply.Ok (after (past busy marked_order) (free 1 1) reply.Ok (freed rest_without_1 without_1) (ordered (young (listed_at 0 3 ∷ [])) new_gens))
 call-frees = record {
   steps = frees-gone;
-  order = (record { fresh = None; which = which; groups = refl; size = refl; marks = marks }, refl);
+  order = (record { fresh = None; which = which; groups = refl; size = refl; marks = marks; counts = refl; hits = stay_unhit Youngest refl busy.pages (freed rest_without_1 without_1).pages }, refl);
   history = refl;
   passes = refl;
 }

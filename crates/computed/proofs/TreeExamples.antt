@@ -3,7 +3,7 @@ use Rattle.std.proofs.Common.{◌≡◌, true, false, [], ◌∷◌, Some, None,
 use Rattle.std.specs.Prelude.{codes}
 use Rattle.machine.specs.Names.{is_name, is_path, parent_path}
 use Rattle.machine.specs.Tree.{chain_up, chain, under_at, under, chain_below, children, find_group, preorder_to, preorder}
-use Rattle.machine.specs.Order.{asking_order}
+use Rattle.machine.specs.Order.{one_page_of, asking_order}
 use Rattle.machine.specs.State.{usage}
 use Rattle.computed.proofs.ExampleStates.{tree, busy}
 
@@ -77,17 +77,17 @@ down = refl
 -- ---- the order of asking
 
 -- the next begins behind the group that was served last, and goes round to it
-asks-round : asking_order tree 0 (Some 2) ≡ 3 ∷ 5 ∷ 0 ∷ 1 ∷ 2 ∷ []
+asks-round : asking_order false tree 0 (one_page_of 2) ≡ 3 ∷ 5 ∷ 0 ∷ 1 ∷ 2 ∷ []
 unfolding preorder_to
 asks-round = refl
 
 -- behind the last group it begins at the target
-asks-from_last : asking_order tree 1 (Some 3) ≡ 1 ∷ 2 ∷ 3 ∷ []
+asks-from_last : asking_order false tree 1 (one_page_of 3) ≡ 1 ∷ 2 ∷ 3 ∷ []
 unfolding preorder_to
 asks-from_last = refl
 
 -- the group that was served last was removed: it begins at the target again
-asks-removed : asking_order tree 0 (Some 4) ≡ 0 ∷ 1 ∷ 2 ∷ 3 ∷ 5 ∷ []
+asks-removed : asking_order false tree 0 (one_page_of 4) ≡ 0 ∷ 1 ∷ 2 ∷ 3 ∷ 5 ∷ []
 unfolding preorder_to
 asks-removed = refl
 

@@ -9,11 +9,11 @@ use Rattle.machine.specs.Generations.{Gens, new_gens, gens_at}
 use Rattle.machine.specs.Aging.{Seen}
 use Rattle.machine.specs.Eviction.{old_pages, passed_by, aged_times, Picks}
 use Rattle.machine.specs.Order.{cursor_at}
-use Rattle.machine.specs.Lists.{Order, served, seen_of, with_seen, is_fresh, TakesNext}
+use Rattle.machine.specs.Lists.{Order, served, seen_of, with_seen, is_fresh, TakesNext, Youngest}
 use Rattle.machine.proofs.Values.{unlike}
 use Rattle.legal.proofs.OrdersLemmas.{taken_is_picked, takes_next_alike}
-use Rattle.computed.proofs.ExampleStates.{memory, pages, listed_at, young, searched, lists_of, ordered, no_marks, none_served, busy, busy_order}
-use Rattle.computed.proofs.CallExamples.{not_new, stay_unmarked}
+use Rattle.computed.proofs.ExampleStates.{memory, pages, listed_at, young, searched, lists_of, ordered, no_marks, by_turns, none_served, busy, busy_order}
+use Rattle.computed.proofs.CallExamples.{not_new, stay_unmarked, stay_unhit}
 
 -- ---- a reclaim under /p takes page 1 of /p/a, which came into its frame before page 0
 
@@ -40,7 +40,7 @@ picks = record { times = 2; none_before = too_early; first = listed_at 1 3; othe
 
 -- /p/a is served for /p, from now on as the last
 abbrev two_served : Gens → Gens → Order
-two_served two three = record (ordered two three) { cursors = None ∷ Some 2 ∷ None ∷ None ∷ None ∷ None ∷ [] }
+two_served two three = record (ordered two three) { cursors = by_turns (None ∷ Some 2 ∷ None ∷ None ∷ None ∷ None ∷ []) }
 
 -- page 1 leaves its list, and the lists of /p/a are those that the search left
 abbrev pub taken_order : Order
@@ -56,7 +56,7 @@ takes = record {
   picked = record { seen = looked; picks = picks; lists = refl };
   was = refl;
   taken = refl;
-  leaves = record { fresh = None; which = which; groups = refl; size = refl; marks = λ p. stay_unmarked 10 (is_held_in pages p) (is_held_in taken.pages p) p };
+  leaves = record { fresh = None; which = which; groups = refl; size = refl; marks = λ p. stay_unmarked 10 (is_held_in pages p) (is_held_in taken.pages p) p; counts = refl; hits = stay_unhit Youngest refl pages taken.pages };
   moves = refl;
 }
   where
@@ -81,7 +81,7 @@ abbrev youngest : ℕ → Order → ℕ
 youngest g order = (gens_at order.held.groups g).max_seq
 
 abbrev served_last : ℕ → Order → ℕ
-served_last target order = rank (cursor_at order.cursors target)
+served_last target order = rank (cursor_at order.cursors target).group
 
 -- not one in which the lists of /p/b aged, too
 takes-not_beside : NotLeft (two_served (searched 5 3 (listed_at 0 3 ∷ [])) (searched 5 4 []))
@@ -96,7 +96,7 @@ takes-not_more : NotLeft (two_served (searched 6 3 (listed_at 0 3 ∷ [])) new_g
 takes-not_more = unlike_order _ (youngest 2) (λ e. omega (arith, e))
 
 -- nor one whose cursor is another target's
-takes-not_for_root : NotLeft (record taken_order { cursors = Some 2 ∷ None ∷ None ∷ None ∷ None ∷ None ∷ [] })
+takes-not_for_root : NotLeft (record taken_order { cursors = by_turns (Some 2 ∷ None ∷ None ∷ None ∷ None ∷ None ∷ []) })
 takes-not_for_root = unlike_order _ (served_last 1) (λ e. omega (arith, e))
 
 -- nor one whose cursor stays
@@ -106,7 +106,7 @@ takes-not_stays = unlike_order _ (served_last 1) (λ e. omega (arith, e))
 -- ---- the front page is marked, and an old page behind it is not
 
 abbrev front_marked : Order
-front_marked = record { held = record { groups = lists_of (searched 5 3 (listed_at 1 3 ∷ listed_at 0 3 ∷ [])) new_gens; marks = false ∷ true ∷ false ∷ false ∷ false ∷ false ∷ false ∷ false ∷ false ∷ false ∷ [] }; cursors = none_served }
+front_marked = record { held = record { groups = lists_of (searched 5 3 (listed_at 1 3 ∷ listed_at 0 3 ∷ [])) new_gens; marks = false ∷ true ∷ false ∷ false ∷ false ∷ false ∷ false ∷ false ∷ false ∷ false ∷ []; hits = [] }; cursors = none_served }
 
 -- page 1 goes to the tail, unmarked, and no list ages
 abbrev passed : Seen
@@ -129,7 +129,7 @@ takes-unmarked = record {
   picked = record { seen = passed; picks = picks-unmarked; lists = refl };
   was = refl;
   taken = refl;
-  leaves = record { fresh = None; which = which; groups = refl; size = refl; marks = λ p. stay_unmarked 10 (is_held_in pages p) (is_held_in other_taken.pages p) p };
+  leaves = record { fresh = None; which = which; groups = refl; size = refl; marks = λ p. stay_unmarked 10 (is_held_in pages p) (is_held_in other_taken.pages p) p; counts = refl; hits = stay_unhit Youngest refl pages other_taken.pages };
   moves = refl;
 }
   where
@@ -164,8 +164,8 @@ of_both = record busy { pages = Some (memory 1 (Held 4)) ∷ Some (memory 2 (Hel
 abbrev own_served : Order
 own_served =
     record {
-      held = record { groups = new_gens ∷ young (listed_at 0 3 ∷ []) ∷ young (listed_at 1 3 ∷ []) ∷ new_gens ∷ new_gens ∷ new_gens ∷ []; marks = no_marks };
-      cursors = None ∷ Some 1 ∷ None ∷ None ∷ None ∷ None ∷ [];
+      held = record { groups = new_gens ∷ young (listed_at 0 3 ∷ []) ∷ young (listed_at 1 3 ∷ []) ∷ new_gens ∷ new_gens ∷ new_gens ∷ []; marks = no_marks; hits = [] };
+      cursors = by_turns (None ∷ Some 1 ∷ None ∷ None ∷ None ∷ None ∷ []);
     }
 
 abbrev turned : Seen
@@ -186,8 +186,8 @@ turn_taken = record of_both { pages = Some (memory 1 (Held 4)) ∷ Some (memory 
 abbrev turn_order : Order
 turn_order =
     record {
-      held = record { groups = new_gens ∷ young (listed_at 0 3 ∷ []) ∷ searched 5 3 [] ∷ new_gens ∷ new_gens ∷ new_gens ∷ []; marks = no_marks };
-      cursors = None ∷ Some 2 ∷ None ∷ None ∷ None ∷ None ∷ [];
+      held = record { groups = new_gens ∷ young (listed_at 0 3 ∷ []) ∷ searched 5 3 [] ∷ new_gens ∷ new_gens ∷ new_gens ∷ []; marks = no_marks; hits = [] };
+      cursors = by_turns (None ∷ Some 2 ∷ None ∷ None ∷ None ∷ None ∷ []);
     }
 
 takes-turn : TakesNext of_both own_served Amount 1 turn_taken turn_order
@@ -200,7 +200,7 @@ takes-turn = record {
   picked = record { seen = turned; picks = picks-turn; lists = refl };
   was = refl;
   taken = refl;
-  leaves = record { fresh = None; which = which; groups = refl; size = refl; marks = λ p. stay_unmarked 10 (is_held_in of_both.pages p) (is_held_in turn_taken.pages p) p };
+  leaves = record { fresh = None; which = which; groups = refl; size = refl; marks = λ p. stay_unmarked 10 (is_held_in of_both.pages p) (is_held_in turn_taken.pages p) p; counts = refl; hits = stay_unhit Youngest refl of_both.pages turn_taken.pages };
   moves = refl;
 }
   where
@@ -218,7 +218,7 @@ takes-not_own order' h =
 
 -- and its lists do not age
 takes-not_target_aged : TakesNext of_both own_served Amount 1 turn_taken
-    (record turn_order { held = record { groups = new_gens ∷ searched 5 3 (listed_at 0 3 ∷ []) ∷ searched 5 3 [] ∷ new_gens ∷ new_gens ∷ new_gens ∷ []; marks = no_marks } }) → ⊥
+    (record turn_order { held = record { groups = new_gens ∷ searched 5 3 (listed_at 0 3 ∷ []) ∷ searched 5 3 [] ∷ new_gens ∷ new_gens ∷ new_gens ∷ []; marks = no_marks; hits = [] } }) → ⊥
 takes-not_target_aged h = let e : 3 ≡ 5 = ap (youngest 1) (takes_next_alike of_both turn_taken own_served turn_order _ Amount 1 takes-turn h) in absurd (omega (arith, e))
 
 -- the next time it is /p/b's turn, which has no page, and so the target's own

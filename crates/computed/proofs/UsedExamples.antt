@@ -1,5 +1,7 @@
 -- Examples: marks that come by frame, which pages a merge of them marks, what marks none, and what changes no list. What does not come of an event is shown not to.
-use Rattle.std.proofs.Common.{◌≡◌, ℕ, zero, suc, ◌||◌, true, false, Bool, List, [], ◌∷◌, ◌++◌, length, Some, None, refl, sym, ap, ◌∙◌, arith}
+use Rattle.machine.specs.declared.config.Placement.TheVariants.{Own}
+use Rattle.std.proofs.Common.{◌≡◌, ℕ, zero, suc, ◌+◌, ◌||◌, nat_le, true, false, Bool, List, [], ◌∷◌, ◌++◌, length, Some, None, refl, sym, ap, ◌∙◌, arith}
+use Rattle.std.proofs.lemmas.Bool.Decides.{nat_tests}
 use Rattle.machine.specs.declared.event.Op.TheVariants.{Read, Write}
 use Rattle.machine.specs.declared.event.Place.TheVariants.{Virtual}
 use Rattle.machine.specs.declared.event.Event.{Event}
@@ -11,10 +13,10 @@ use Rattle.machine.specs.Pages.{Held, Coming, Going, Away, page_at, is_held_in}
 use Rattle.machine.specs.State.{State}
 use Rattle.machine.specs.Generations.{new_gens}
 use Rattle.machine.specs.Aging.{is_marked}
-use Rattle.machine.specs.Lists.{Order, shown_at, has_bit, is_in_bits, Orders}
+use Rattle.machine.specs.Lists.{Order, shown_at, has_bit, is_in_bits, Orders, hits_at, is_marking, Youngest}
 use Rattle.legal.proofs.OrdersLemmas.{orders_alike}
-use Rattle.computed.proofs.ExampleStates.{task, frame, memory, of_file, pages, busy, listed_at, searched, lists_of, none_served, ordered}
-use Rattle.computed.proofs.CallExamples.{not_new, none_marked}
+use Rattle.computed.proofs.ExampleStates.{task, frame, memory, of_file, pages, busy, listed_at, searched, lists_of, by_turns, none_served, ordered}
+use Rattle.computed.proofs.CallExamples.{not_new, none_marked, stay_unhit, own_unhit}
 use Rattle.computed.proofs.HeldExamples.{marked, page_standing, youngest, unlike_number, unlike_mark, unlike_cursor, set_is_not_clear, clear_is_not_set, marks_of, two_stay, one_marked, aged_lists, before}
 
 -- ---- the bit of a frame
@@ -105,11 +107,11 @@ unmarked = ordered aged_lists new_gens
 
 -- pages 0 and 1 are marked so
 abbrev marked_so : Bool → Bool → Order
-marked_so zero_is one_is = record { held = record { groups = lists_of aged_lists new_gens; marks = marks_of zero_is one_is }; cursors = none_served }
+marked_so zero_is one_is = record { held = record { groups = lists_of aged_lists new_gens; marks = marks_of zero_is one_is; hits = [] }; cursors = none_served }
 
 -- where marks of pages 0 and 1 become others, and no other page is marked before or after
-marks_by : (zero_was one_was zero_is one_is : Bool) (bits : ℕ) → zero_is ≡ (zero_was || there_and (is_in_bits 0 bits) (page_at pages 0)) → one_is ≡ (one_was || there_and (is_in_bits 0 bits) (page_at pages 1)) → (p : ℕ)
-    → is_marked (marks_of zero_is one_is) p ≡ (is_marked (marks_of zero_was one_was) p || there_and (is_in_bits 0 bits) (page_at pages p))
+marks_by : (zero_was one_was zero_is one_is : Bool) (bits : ℕ) → zero_is ≡ (zero_was || is_marking Own (is_in_bits 0 bits) 0 (page_at pages 0)) → one_is ≡ (one_was || is_marking Own (is_in_bits 0 bits) 0 (page_at pages 1)) → (p : ℕ)
+    → is_marked (marks_of zero_is one_is) p ≡ (is_marked (marks_of zero_was one_was) p || is_marking Own (is_in_bits 0 bits) 0 (page_at pages p))
 marks_by zero_was one_was zero_is one_is bits first second zero = first
 marks_by zero_was one_was zero_is one_is bits first second (suc zero) = second
 marks_by zero_was one_was zero_is one_is bits first second (suc (suc zero)) = refl
@@ -119,7 +121,7 @@ marks_by zero_was one_was zero_is one_is bits first second (suc (suc (suc (suc (
 
 -- the bit of frame 5 marks page 1, which stands where it stood
 merges : Orders busy unmarked (merge 32) reply.Ok busy before
-merges = (record { groups = refl; size = refl; marks = marks_by false false false true 32 refl refl }, refl)
+merges = (record { groups = refl; size = refl; marks = marks_by false false false true 32 refl refl; counts = refl; hits = own_unhit (is_in_bits 0 32) unmarked.held.marks pages }, refl)
 
 abbrev NotMerged : Order → Type 0
 NotMerged other = Orders busy unmarked (merge 32) reply.Ok busy other → ⊥
@@ -141,16 +143,16 @@ merges-not_aged : NotMerged (one_marked (searched 6 3 (listed_at 1 3 ∷ listed_
 merges-not_aged = unlike_number busy busy unmarked before _ (merge 32) reply.Ok merges (youngest 2) (λ e. omega (arith, e))
 
 -- there are marks for as many page numbers as before
-merges-not_longer : NotMerged (record before { held = record { groups = before.held.groups; marks = before.held.marks ++ false ∷ [] } })
+merges-not_longer : NotMerged (record before { held = record { groups = before.held.groups; marks = before.held.marks ++ false ∷ []; hits = [] } })
 merges-not_longer = unlike_number busy busy unmarked before _ (merge 32) reply.Ok merges (λ held. length held.marks) (λ e. omega (arith, e))
 
 -- and no cursor moves
-merges-not_served : NotMerged (record before { cursors = None ∷ Some 2 ∷ None ∷ None ∷ None ∷ None ∷ [] })
+merges-not_served : NotMerged (record before { cursors = by_turns (None ∷ Some 2 ∷ None ∷ None ∷ None ∷ None ∷ []) })
 merges-not_served = unlike_cursor busy busy unmarked before _ (merge 32) reply.Ok merges 1 (λ e. omega (arith, e))
 
 -- the bit of frame 4 marks page 0 as well, and page 1 keeps its mark
 merges-more : Orders busy before (merge 16) reply.Ok busy (marked_so true true)
-merges-more = (record { groups = refl; size = refl; marks = marks_by false true true true 16 refl refl }, refl)
+merges-more = (record { groups = refl; size = refl; marks = marks_by false true true true 16 refl refl; counts = refl; hits = own_unhit (is_in_bits 0 16) before.held.marks pages }, refl)
 
 -- a clear bit takes no mark
 merges-not_cleared : Orders busy before (merge 16) reply.Ok busy (marked_so true false) → ⊥
@@ -158,13 +160,13 @@ merges-not_cleared = unlike_mark busy busy before (marked_so true true) _ (merge
 
 -- and a page that is marked can be marked again
 merges-again : Orders busy before (merge 32) reply.Ok busy before
-merges-again = (record { groups = refl; size = refl; marks = marks_by false true false true 32 refl refl }, refl)
+merges-again = (record { groups = refl; size = refl; marks = marks_by false true false true 32 refl refl; counts = refl; hits = own_unhit (is_in_bits 0 32) before.held.marks pages }, refl)
 
 -- ---- bits that mark no page
 
 -- frames 2 and 3 are free: no mark changes, nor anything else
 merges-free : Orders busy before (merge 12) reply.Ok busy before
-merges-free = (record { groups = refl; size = refl; marks = marks_by false true false true 12 refl refl }, refl)
+merges-free = (record { groups = refl; size = refl; marks = marks_by false true false true 12 refl refl; counts = refl; hits = own_unhit (is_in_bits 0 12) before.held.marks pages }, refl)
 
 -- no other order comes of it
 merges-free_same : (other : Order) → Orders busy before (merge 12) reply.Ok busy other → before ≡ other
@@ -172,7 +174,7 @@ merges-free_same other = orders_alike busy busy before before other (merge 12) r
 
 -- into frame 0 comes page 2, and from frame 1 goes page 3: neither is marked
 merges-moving : Orders busy before (merge 3) reply.Ok busy before
-merges-moving = (record { groups = refl; size = refl; marks = marks_by false true false true 3 refl refl }, refl)
+merges-moving = (record { groups = refl; size = refl; marks = marks_by false true false true 3 refl refl; counts = refl; hits = own_unhit (is_in_bits 0 3) before.held.marks pages }, refl)
 
 -- not the one that comes
 merges-not_coming : (other : Order) → marked 2 other.held ≡ true → Orders busy before (merge 3) reply.Ok busy other → ⊥
@@ -184,9 +186,9 @@ merges-not_going other is = unlike_mark busy busy before before other (merge 3) 
 
 -- all bits of the next word, which has no frame here
 merges-next_word : Orders busy before (event.MergeMarks 1 all_bits) reply.Ok busy before
-merges-next_word = (record { groups = refl; size = refl; marks = marks }, refl)
+merges-next_word = (record { groups = refl; size = refl; marks = marks; counts = refl; hits = own_unhit (is_in_bits 1 all_bits) before.held.marks pages }, refl)
   where
-    marks : (p : ℕ) → is_marked before.held.marks p ≡ (is_marked before.held.marks p || there_and (is_in_bits 1 all_bits) (page_at pages p))
+    marks : (p : ℕ) → is_marked before.held.marks p ≡ (is_marked before.held.marks p || is_marking Own (is_in_bits 1 all_bits) 0 (page_at pages p))
     marks zero = refl
     marks (suc zero) = refl
     marks (suc (suc zero)) = refl
@@ -201,13 +203,13 @@ abbrev given_again : State
 given_again = record busy { pages = Some (memory 2 (Away 0)) ∷ Some (memory 2 (Held 5)) ∷ Some (memory 2 (Coming 0 1 7)) ∷ Some (memory 3 (Going 1 2 8)) ∷ Some (memory 3 (Away 3)) ∷ Some (memory 3 (Held 4)) ∷ [] }
 
 abbrev two_hold : List Bool → Order
-two_hold marks = record { held = record { groups = lists_of (searched 5 3 (listed_at 1 3 ∷ [])) (searched 5 3 (listed_at 5 5 ∷ [])); marks = marks }; cursors = none_served }
+two_hold marks = record { held = record { groups = lists_of (searched 5 3 (listed_at 1 3 ∷ [])) (searched 5 3 (listed_at 5 5 ∷ [])); marks = marks; hits = [] }; cursors = none_served }
 
 -- the page that has it is marked
 merges-given_again : Orders given_again (two_hold (marks_of false false)) (merge 16) reply.Ok given_again (two_hold (false ∷ false ∷ false ∷ false ∷ false ∷ true ∷ false ∷ false ∷ false ∷ false ∷ []))
-merges-given_again = (record { groups = refl; size = refl; marks = marks }, refl)
+merges-given_again = (record { groups = refl; size = refl; marks = marks; counts = refl; hits = own_unhit (is_in_bits 0 16) (marks_of false false) given_again.pages }, refl)
   where
-    marks : (p : ℕ) → is_marked (false ∷ false ∷ false ∷ false ∷ false ∷ true ∷ false ∷ false ∷ false ∷ false ∷ []) p ≡ (is_marked (marks_of false false) p || there_and (is_in_bits 0 16) (page_at given_again.pages p))
+    marks : (p : ℕ) → is_marked (false ∷ false ∷ false ∷ false ∷ false ∷ true ∷ false ∷ false ∷ false ∷ false ∷ []) p ≡ (is_marked (marks_of false false) p || is_marking Own (is_in_bits 0 16) 0 (page_at given_again.pages p))
     marks zero = refl
     marks (suc zero) = refl
     marks (suc (suc zero)) = refl
@@ -218,8 +220,11 @@ merges-given_again = (record { groups = refl; size = refl; marks = marks }, refl
 
 -- it does not stay unmarked, whatever was marked before
 given_again-not_unmarked : (order order' : Order) → marked 5 order'.held ≡ false → Orders given_again order (merge 16) reply.Ok given_again order' → ⊥
-given_again-not_unmarked order order' clear h = let e : marked 5 order'.held ≡ (marked 5 order.held || true) = h.0.marks 5 in absurd (of_either (marked 5 order.held) (sym clear ∙ e))
+given_again-not_unmarked order order' clear h = let e : marked 5 order'.held ≡ (marked 5 order.held || true) = h.0.marks 5 ∙ ap (λ (b : Bool). marked 5 order.held || b) (first_marks (hits_at order.held.hits 5)) in absurd (of_either (marked 5 order.held) (sym clear ∙ e))
   where
+    first_marks : (hits : ℕ) → nat_le 1 (hits + 1) ≡ true
+    first_marks hits = grind (arith, nat_tests)
+
     of_either : (b : Bool) → false ≡ (b || true) → ⊥
     of_either true e = cc
     of_either false e = cc
@@ -239,7 +244,7 @@ hit = reply.Done 3 (Some (frame 5))
 
 -- no list changes, and no page is marked
 hits : Orders busy unmarked (read 1 1) hit busy unmarked
-hits = (record { fresh = None; which = λ p. not_new (is_held_in pages p); groups = refl; size = refl; marks = two_stay false false pages refl refl }, refl)
+hits = (record { fresh = None; which = λ p. not_new (is_held_in pages p); groups = refl; size = refl; marks = two_stay false false pages refl refl; counts = refl; hits = stay_unhit Youngest refl pages pages }, refl)
 
 -- not even the one that it read
 hits-not_marked : Orders busy unmarked (read 1 1) hit busy before → ⊥
@@ -269,7 +274,7 @@ shown-none = refl
 
 -- a page is in transfer: whoever reads it is told so
 waits : Orders busy before (read 1 2) reply.Busy busy before
-waits = (record { fresh = None; which = λ p. not_new (is_held_in pages p); groups = refl; size = refl; marks = two_stay false true pages refl refl }, refl)
+waits = (record { fresh = None; which = λ p. not_new (is_held_in pages p); groups = refl; size = refl; marks = two_stay false true pages refl refl; counts = refl; hits = stay_unhit Youngest refl pages pages }, refl)
 
 abbrev NotWaits : Order → Type 0
 NotWaits other = Orders busy before (read 1 2) reply.Busy busy other → ⊥
@@ -283,5 +288,5 @@ waits-not_cleared : NotWaits unmarked
 waits-not_cleared = unlike_mark busy busy before before _ (read 1 2) reply.Busy waits 1 set_is_not_clear
 
 -- and no cursor moves
-waits-not_served : NotWaits (record before { cursors = None ∷ Some 2 ∷ None ∷ None ∷ None ∷ None ∷ [] })
+waits-not_served : NotWaits (record before { cursors = by_turns (None ∷ Some 2 ∷ None ∷ None ∷ None ∷ None ∷ []) })
 waits-not_served = unlike_cursor busy busy before before _ (read 1 2) reply.Busy waits 1 (λ e. omega (arith, e))

@@ -4,11 +4,11 @@ use Rattle.std.specs.Int.{bit_at}
 use Rattle.std.proofs.lemmas.Nat.Bits.{bit_at-pow_other}
 use Rattle.std.proofs.lemmas.Bool.Decides.{eqb_tells}
 use Rattle.std.specs.Prelude.{Ok, Err, codes, if◌then◌else◌}
-use Rattle.machine.specs.declared.record.OomGroup.TheVariants.{Single}
+use Rattle.machine.specs.declared.record.OomGroup.TheVariants.{Single, Whole}
 use Rattle.machine.specs.declared.amount.Amount.TheVariants as amount
 use Rattle.machine.specs.declared.event.Cause.TheVariants as cause
 use Rattle.machine.specs.declared.config.Watermarks.{Watermarks}
-use Rattle.machine.specs.declared.config.Placement.TheVariants.{Own}
+use Rattle.machine.specs.declared.config.Placement.TheVariants.{Own, Linux}
 use Rattle.machine.specs.declared.command.Actor.TheVariants as actor
 use Rattle.machine.specs.declared.command.Answer.TheVariants as answer
 use Rattle.machine.specs.declared.command.Command.TheVariants as command
@@ -27,15 +27,16 @@ use Rattle.machine.specs.Protection.{effective_along}
 use Rattle.machine.specs.Pages.{OfFile, Residence, Held, Coming, Page, Pages, page_at, is_held_in, is_number}
 use Rattle.machine.specs.Counts.{no_limits, no_counts, over_at}
 use Rattle.machine.specs.Tasks.{task_of}
-use Rattle.machine.specs.State.{State}
+use Rattle.machine.specs.State.{Opening, State}
 use Rattle.machine.specs.Generations.{Gens, Listed, new_gens}
 use Rattle.machine.specs.Aging.{is_marked}
-use Rattle.machine.specs.Lists.{HeldLists, Youngest, SecondYoungest, GoesOn, is_fresh, is_in_bits, MergesMarks, PicksOf}
+use Rattle.machine.specs.Order.{no_cursor, one_page_of}
+use Rattle.machine.specs.Lists.{HeldLists, Youngest, SecondYoungest, GoesOn, is_fresh, is_in_bits, is_marking, MergesMarks, PicksOf}
 use Rattle.machine.specs.Call.{Past, entries_of}
 use Rattle.block_store.specs.Device.{Disk}
 use Rattle.pages.specs.Tickets.{TicketOf}
-use Rattle.book.specs.declared.event.Event.TheVariants as asks
-use Rattle.book.specs.declared.event.Reply.TheVariants as says
+use Rattle.book_events.specs.declared.event.Event.TheVariants as asks
+use Rattle.book_events.specs.declared.event.Reply.TheVariants as says
 use Rattle.turns.specs.declared.turn.Access.{Access}
 use Rattle.driver.specs.declared.seat.Activity.{Activity}
 use Rattle.driver.specs.declared.seat.Activity.TheVariants.{Rests, Begun, Does}
@@ -47,7 +48,7 @@ use Rattle.turns.specs.declared.turn.Transition.TheVariants as transition
 use Rattle.turns.specs.declared.turn.Want.TheVariants as want
 use Rattle.turns.specs.Turns.{wants, Told, resumes_at, arrived, judged}
 use Rattle.driver.specs.Schedule.{World, Turn, outcome_of, left_of}
-use Rattle.computed_turns.proofs.TurnExamples.{lists, order, caller, disk as no_disk, after}
+use Rattle.computed_turns.proofs.TurnExamples.{lists, order, caller, disk as no_disk, after, stay_unhit, own_unhit}
 use Rattle.computed_turns.proofs.TaskExamples.{r, tree}
 
 -- ---- a read of a page that is not in memory
@@ -56,10 +57,13 @@ use Rattle.computed_turns.proofs.TaskExamples.{r, tree}
 abbrev cached : Residence → Page
 cached residence = record { content = OfFile 0 0; group = 1; dirty = false; residence = residence }
 
+abbrev opening : Opening
+opening = record { frames = 2; swap = 0; files = 1 ∷ []; watermarks = record { low = 0; high = 0 }; trace_limit = 8; recursive = false; placement = Own }
+
 -- 2 frames, no swap, and one file of one page, whose home is the device's first block; task 1 is of /r
 abbrev with_pages : Pages → State
 with_pages pages = record {
-  opening = record { frames = 2; swap = 0; files = 1 ∷ []; watermarks = record { low = 0; high = 0 }; trace_limit = 8; recursive = false; placement = Own };
+  opening = opening;
   tree = tree;
   limits = no_limits ∷ no_limits ∷ [];
   flags = Single ∷ Single ∷ [];
@@ -100,13 +104,13 @@ module _ (bytes : List ℕ) where
   with_file = record { max_seq = 3; anon = record { min_seq = 0; pages = [] }; file = record { min_seq = 0; pages = record { page = 0; seq = 2 } ∷ [] } }
 
   abbrev filed : HeldLists
-  filed = record { groups = new_gens ∷ with_file ∷ []; marks = false ∷ false ∷ [] }
+  filed = record { groups = new_gens ∷ with_file ∷ []; marks = false ∷ false ∷ []; hits = [] }
 
   abbrev once_arrived : Past
   once_arrived = record {
     state = with_pages held;
     history = entries_of caller once_fetched.history (event.Arrived number bytes) reply.Ok ++ once_fetched.history;
-    order = record { held = filed; cursors = None ∷ None ∷ [] };
+    order = record { held = filed; cursors = no_cursor ∷ no_cursor ∷ [] };
     passes = 1;
   }
 
@@ -115,7 +119,7 @@ module _ (bytes : List ℕ) where
   once_read byte = record {
     state = with_pages held;
     history = entries_of caller once_arrived.history (event.Access access.task access.place Read) (reply.Done byte (Some (record { 0 = 0 }))) ++ once_arrived.history;
-    order = record { held = record { groups = new_gens ∷ with_file ∷ []; marks = true ∷ false ∷ [] }; cursors = None ∷ None ∷ [] };
+    order = record { held = record { groups = new_gens ∷ with_file ∷ []; marks = true ∷ false ∷ []; hits = [] }; cursors = no_cursor ∷ no_cursor ∷ [] };
     passes = 1;
   }
 
@@ -123,7 +127,7 @@ module _ (bytes : List ℕ) where
   world past what = record { past = past; caller = caller; disk = disk; seats = record { actor = actor.Task 1; activity = what } ∷ []; turns = 1000 }
 
   begins_to_come : GoesOn Youngest [] lists coming lists
-  begins_to_come = record { fresh = None; which = which; groups = refl; size = refl; marks = marks }
+  begins_to_come = record { fresh = None; which = which; groups = refl; size = refl; marks = marks; counts = refl; hits = stay_unhit Youngest refl [] coming }
     where
       which : (p : ℕ) → is_number None p ≡ is_fresh [] coming p
       which zero = refl
@@ -183,7 +187,7 @@ module _ (bytes : List ℕ) where
   }
 
   arrives_listed : GoesOn SecondYoungest coming lists held filed
-  arrives_listed = record { fresh = Some 0; which = which; groups = refl; size = refl; marks = marks }
+  arrives_listed = record { fresh = Some 0; which = which; groups = refl; size = refl; marks = marks; counts = refl; hits = stay_unhit SecondYoungest refl coming held }
     where
       which : (p : ℕ) → is_number (Some 0) p ≡ is_fresh coming held p
       which zero = refl
@@ -227,7 +231,7 @@ module _ (bytes : List ℕ) where
 
   -- the hit leaves the lists as they are
   is_hit : GoesOn Youngest held filed held filed
-  is_hit = record { fresh = None; which = which; groups = refl; size = refl; marks = marks }
+  is_hit = record { fresh = None; which = which; groups = refl; size = refl; marks = marks; counts = refl; hits = stay_unhit Youngest refl held held }
     where
       which : (p : ℕ) → is_number None p ≡ is_fresh held held p
       which zero = refl
@@ -247,10 +251,10 @@ module _ (bytes : List ℕ) where
       ]
 
   -- its merge marks the page that is held in frame 0
-  is_marked_now : MergesMarks held 0 1 filed (record { groups = filed.groups; marks = true ∷ false ∷ [] })
-  is_marked_now = record { groups = refl; size = refl; marks = marks }
+  is_marked_now : MergesMarks Own held 0 1 filed (record { groups = filed.groups; marks = true ∷ false ∷ []; hits = [] })
+  is_marked_now = record { groups = refl; size = refl; marks = marks; counts = refl; hits = own_unhit (is_in_bits 0 1) filed.marks held }
     where
-      marks : (p : ℕ) → is_marked (true ∷ false ∷ []) p ≡ (is_marked filed.marks p || there_and (is_in_bits 0 1) (page_at held p))
+      marks : (p : ℕ) → is_marked (true ∷ false ∷ []) p ≡ (is_marked filed.marks p || is_marking Own (is_in_bits 0 1) 0 (page_at held p))
       marks zero = refl
       marks (suc zero) = refl
       marks (suc (suc p)) = refl
@@ -301,21 +305,21 @@ abbrev old_file : List Listed → Gens
 old_file pages = record { max_seq = 5; anon = record { min_seq = 4; pages = [] }; file = record { min_seq = 3; pages = pages } }
 
 abbrev old_lists : List Listed → HeldLists
-old_lists pages = record { groups = new_gens ∷ old_file pages ∷ []; marks = false ∷ false ∷ [] }
+old_lists pages = record { groups = new_gens ∷ old_file pages ∷ []; marks = false ∷ false ∷ []; hits = [] }
 
 abbrev first_listed : Listed
 first_listed = record { page = 0; seq = 3 }
 
 -- the clean page of the file is old
 abbrev cached_once : Past
-cached_once = record { state = with_pages held; history = []; order = record { held = old_lists (first_listed ∷ []); cursors = None ∷ None ∷ [] }; passes = 1 }
+cached_once = record { state = with_pages held; history = []; order = record { held = old_lists (first_listed ∷ []); cursors = no_cursor ∷ no_cursor ∷ [] }; passes = 1 }
 
 -- it is gone, and /r was served last for itself
 abbrev once_dropped : Past
 once_dropped = record {
   state = with_pages (None ∷ []);
   history = entries_of caller [] (event.ReclaimOne r) reply.Dropped ++ [];
-  order = record { held = old_lists []; cursors = None ∷ Some 1 ∷ [] };
+  order = record { held = old_lists []; cursors = no_cursor ∷ one_page_of 1 ∷ [] };
   passes = 1;
 }
 
@@ -330,7 +334,7 @@ picks = record {
 }
 
 leaves_list : GoesOn Youngest held (old_lists (first_listed ∷ [])) (None ∷ []) (old_lists [])
-leaves_list = record { fresh = None; which = which; groups = refl; size = refl; marks = marks }
+leaves_list = record { fresh = None; which = which; groups = refl; size = refl; marks = marks; counts = refl; hits = stay_unhit Youngest refl held (None ∷ []) }
   where
     which : (p : ℕ) → is_number None p ≡ is_fresh held (None ∷ []) p
     which zero = refl
@@ -459,9 +463,19 @@ ended-in_schedule = refl
 -- ---- memory.stat
 
 -- it is read
-stat-read : judged tree actor.Shell (command.Cat (codes "/r") (codes "memory.stat")) ≡ Ok (stage.Show (query.Stat r))
+stat-read : judged opening tree actor.Shell (command.Cat (codes "/r") (codes "memory.stat")) ≡ Ok (stage.Show (query.Stat r))
 stat-read = refl
 
 -- and not written
-stat-written : judged tree actor.Shell (command.Set (codes "/r") (codes "memory.stat") (codes "0")) ≡ Err Invalid
+stat-written : judged opening tree actor.Shell (command.Set (codes "/r") (codes "memory.stat") (codes "0")) ≡ Err Invalid
 stat-written = refl
+
+-- ---- memory.oom.group
+
+-- by our own placement 01 is no flag
+flag-own : judged opening tree actor.Shell (command.Set (codes "/r") (codes "memory.oom.group") (codes "01")) ≡ Err Invalid
+flag-own = refl
+
+-- and by Linux's it is one
+flag-linux : judged (record opening { placement = Linux }) tree actor.Shell (command.Set (codes "/r") (codes "memory.oom.group") (codes "01")) ≡ Ok (stage.SetOomGroup r Whole)
+flag-linux = refl

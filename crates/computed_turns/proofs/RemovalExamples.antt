@@ -16,13 +16,14 @@ use Rattle.machine.specs.Tree.{Node, root, chain_up, chain, under_at}
 use Rattle.machine.specs.Pages.{Memory, Held, Away, Page, page_at}
 use Rattle.machine.specs.Counts.{no_limits, no_counts}
 use Rattle.machine.specs.Tasks.{PageTables, task_of}
-use Rattle.machine.specs.State.{State}
+use Rattle.machine.specs.Order.{no_cursor, one_page_of}
+use Rattle.machine.specs.State.{Opening, State}
 use Rattle.machine.specs.Refusals.{refusal}
 use Rattle.machine.specs.Step.{regrouped}
 use Rattle.machine.specs.Generations.{Gens, new_gens}
 use Rattle.machine.specs.Call.{Past, entries_of}
-use Rattle.book.specs.declared.event.Event.TheVariants as asks
-use Rattle.book.specs.declared.event.Reply.TheVariants as says
+use Rattle.book_events.specs.declared.event.Event.TheVariants as asks
+use Rattle.book_events.specs.declared.event.Reply.TheVariants as says
 use Rattle.turns.specs.declared.turn.Pending.TheVariants as pending
 use Rattle.turns.specs.declared.turn.Stage.TheVariants as stage
 use Rattle.driver.specs.declared.seat.Outcome.TheVariants.{Ends}
@@ -44,10 +45,13 @@ on_block g = record { content = Memory; group = g; dirty = false; residence = Aw
 abbrev tables : PageTables
 tables = [] ∷ (Some (record { 0 = 0 }) ∷ Some (record { 0 = 1 }) ∷ []) ∷ []
 
+abbrev opening : Opening
+opening = record { frames = 2; swap = 1; files = []; watermarks = record { low = 0; high = 0 }; trace_limit = 8; recursive = false; placement = Own }
+
 -- task 1 is of the group h, and both pages are of the group g
 abbrev with_groups : List Node → ℕ → ℕ → State
 with_groups groups h g = record {
-  opening = record { frames = 2; swap = 1; files = []; watermarks = record { low = 0; high = 0 }; trace_limit = 8; recursive = false; placement = Own };
+  opening = opening;
   tree = groups;
   limits = no_limits ∷ no_limits ∷ [];
   flags = Single ∷ Single ∷ [];
@@ -74,14 +78,14 @@ lists_of seq = record { max_seq = 3; anon = record { min_seq = 0; pages = record
 
 -- the page in the frame is marked and in the youngest generation of /r, the group that was served last for the root and for itself
 abbrev at_first : Past
-at_first = record { state = left; history = []; order = record { held = record { groups = new_gens ∷ lists_of 3 ∷ []; marks = true ∷ false ∷ [] }; cursors = Some 1 ∷ Some 1 ∷ [] }; passes = 1 }
+at_first = record { state = left; history = []; order = record { held = record { groups = new_gens ∷ lists_of 3 ∷ []; marks = true ∷ false ∷ []; hits = [] }; cursors = one_page_of 1 ∷ one_page_of 1 ∷ [] }; passes = 1 }
 
 -- it is in the root's second youngest generation then, and marked still; the lists of /r are empty, and no group was served last for it
 abbrev once_removed : Past
 once_removed = record {
   state = removed;
   history = entries_of caller [] (event.Rmdir r) reply.Ok;
-  order = record { held = record { groups = lists_of 2 ∷ new_gens ∷ []; marks = true ∷ false ∷ [] }; cursors = Some 1 ∷ None ∷ [] };
+  order = record { held = record { groups = lists_of 2 ∷ new_gens ∷ []; marks = true ∷ false ∷ []; hits = [] }; cursors = one_page_of 1 ∷ no_cursor ∷ [] };
   passes = 1;
 }
 
@@ -143,15 +147,15 @@ meets-task = record {
 }
 
 -- the path of the root is found, and the book refuses its removal
-root-found : judged tree actor.Control (command.Rmdir (codes "/")) ≡ Ok (stage.Rmdir (record { 0 = 0 }))
+root-found : judged opening tree actor.Control (command.Rmdir (codes "/")) ≡ Ok (stage.Rmdir (record { 0 = 0 }))
 root-found = refl
 
 root-refused : refusal left (event.Rmdir (record { 0 = 0 })) ≡ Some Busy
 root-refused = refl
 
 -- a removal is the shell's and control's alone
-rmdir-task : judged tree (actor.Task 1) rmdir ≡ Err Invalid
+rmdir-task : judged opening tree (actor.Task 1) rmdir ≡ Err Invalid
 rmdir-task = refl
 
-rmdir-daemon : judged tree actor.Daemon rmdir ≡ Err Invalid
+rmdir-daemon : judged opening tree actor.Daemon rmdir ≡ Err Invalid
 rmdir-daemon = refl

@@ -19,12 +19,12 @@ use Rattle.machine.specs.Tree.{Node, root, chain_up, chain, under_at}
 use Rattle.machine.specs.Pages.{Memory, Away, Page, page_at, is_held_in, is_number}
 use Rattle.machine.specs.Counts.{no_limits, no_counts}
 use Rattle.machine.specs.Tasks.{Tasks, PageTable, PageTables, task_of, mapped_at}
-use Rattle.machine.specs.State.{State}
+use Rattle.machine.specs.State.{Opening, State}
 use Rattle.machine.specs.Step.{still}
 use Rattle.machine.specs.Aging.{is_marked}
 use Rattle.machine.specs.Lists.{Youngest, GoesOn, is_fresh}
 use Rattle.machine.specs.Call.{Past}
-use Rattle.book.specs.declared.event.Reply.TheVariants as says
+use Rattle.book_events.specs.declared.event.Reply.TheVariants as says
 use Rattle.turns.specs.declared.turn.Stage.TheVariants as stage
 use Rattle.driver.specs.declared.seat.Outcome.TheVariants.{Ends}
 use Rattle.turns.specs.declared.turn.Transition.TheVariants as transition
@@ -32,7 +32,7 @@ use Rattle.driver.specs.declared.seat.Activity.{Activity}
 use Rattle.driver.specs.declared.seat.Activity.TheVariants.{Rests, Begun}
 use Rattle.turns.specs.Turns.{judged}
 use Rattle.driver.specs.Schedule.{World, Turn}
-use Rattle.computed_turns.proofs.TurnExamples.{lists, order, caller, disk, after}
+use Rattle.computed_turns.proofs.TurnExamples.{lists, order, caller, disk, after, stay_unhit}
 
 abbrev task : ℕ → TaskId
 task n = record { 0 = n }
@@ -52,9 +52,12 @@ shows = Some (record { 0 = 0 }) ∷ []
 abbrev pub tree : List Node
 tree = root ∷ record { parent = Some 0; path = codes "/r"; live = true } ∷ []
 
+abbrev opening : Opening
+opening = record { frames = 2; swap = 1; files = []; watermarks = record { low = 0; high = 0 }; trace_limit = 8; recursive = false; placement = Own }
+
 abbrev with_tasks : Tasks → PageTables → State
 with_tasks tasks tables = record {
-  opening = record { frames = 2; swap = 1; files = []; watermarks = record { low = 0; high = 0 }; trace_limit = 8; recursive = false; placement = Own };
+  opening = opening;
   tree = tree;
   limits = no_limits ∷ no_limits ∷ [];
   flags = Single ∷ Single ∷ [];
@@ -110,7 +113,7 @@ none_marked (suc zero) = refl
 none_marked (suc (suc p)) = refl
 
 unchanged : GoesOn Youngest (Some away ∷ []) lists (Some away ∷ []) lists
-unchanged = record { fresh = None; which = none_fresh; groups = refl; size = refl; marks = none_marked }
+unchanged = record { fresh = None; which = none_fresh; groups = refl; size = refl; marks = none_marked; counts = refl; hits = stay_unhit Youngest refl (Some away ∷ []) (Some away ∷ []) }
 
 -- ---- turns
 
@@ -255,29 +258,29 @@ forks-killed = record {
 -- ---- who is told what
 
 -- a fork and a free are a task's own
-fork-shell : judged tree actor.Shell (command.Fork 2) ≡ Err Invalid
+fork-shell : judged opening tree actor.Shell (command.Fork 2) ≡ Err Invalid
 fork-shell = refl
 
-fork-daemon : judged tree actor.Daemon (command.Fork 2) ≡ Err Invalid
+fork-daemon : judged opening tree actor.Daemon (command.Fork 2) ≡ Err Invalid
 fork-daemon = refl
 
-free-control : judged tree actor.Control (command.Free 0) ≡ Err Invalid
+free-control : judged opening tree actor.Control (command.Free 0) ≡ Err Invalid
 free-control = refl
 
 -- a task does not move itself, not even to a group that is not there
-attach-task : judged tree (actor.Task 1) (command.Attach 1 (codes "/x")) ≡ Err Invalid
+attach-task : judged opening tree (actor.Task 1) (command.Attach 1 (codes "/x")) ≡ Err Invalid
 attach-task = refl
 
 -- the path is looked for before the book is asked whether there is such a task
-attach-nowhere : judged tree actor.Shell (command.Attach 9 (codes "/x")) ≡ Err NoEntry
+attach-nowhere : judged opening tree actor.Shell (command.Attach 9 (codes "/x")) ≡ Err NoEntry
 attach-nowhere = refl
 
-attach-no_task : judged tree actor.Shell (command.Attach 9 (codes "/r")) ≡ Ok (stage.Attach (task 9) r)
+attach-no_task : judged opening tree actor.Shell (command.Attach 9 (codes "/r")) ≡ Ok (stage.Attach (task 9) r)
 attach-no_task = refl
 
 -- the book judges a child's number and a virtual page, not the driver
-fork-zero : judged tree (actor.Task 1) (command.Fork 0) ≡ Ok (stage.Fork (task 1) (task 0))
+fork-zero : judged opening tree (actor.Task 1) (command.Fork 0) ≡ Ok (stage.Fork (task 1) (task 0))
 fork-zero = refl
 
-free-past : judged tree (actor.Task 1) (command.Free 100000) ≡ Ok (stage.Free (task 1) 100000)
+free-past : judged opening tree (actor.Task 1) (command.Free 100000) ≡ Ok (stage.Free (task 1) 100000)
 free-past = refl

@@ -1,5 +1,5 @@
 -- An example of a finish: a max is set in one turn, and in the next one nothing has to leave.
-use Rattle.std.proofs.Common.{◌≡◌, ℕ, zero, suc, inl, true, false, [], ◌∷◌, ◌++◌, Some, None, refl, arith}
+use Rattle.std.proofs.Common.{◌≡◌, ℕ, zero, suc, inl, Bool, true, false, cond, List, [], ◌∷◌, ◌++◌, Option, Some, None, refl, sym, arith}
 use Rattle.std.specs.Prelude.{codes}
 use Rattle.machine.specs.declared.config.Placement.TheVariants.{Own}
 use Rattle.machine.specs.declared.record.OomGroup.TheVariants.{Single}
@@ -15,15 +15,18 @@ use Rattle.machine.specs.declared.reply.Reply.TheVariants as reply
 use Rattle.machine.specs.declared.event.Event.{Event as Plain_event}
 use Rattle.machine.specs.declared.id.GroupId.{GroupId}
 use Rattle.machine.specs.declared.reply.Reply.{Reply as Plain_reply}
+use Rattle.machine.specs.declared.record.Kind.{Kind}
 use Rattle.machine.specs.Tree.{root, chain_up, chain, under_at}
 use Rattle.machine.specs.Counts.{no_limits, no_counts}
 use Rattle.machine.specs.State.{State}
 use Rattle.machine.specs.Generations.{new_gens}
 use Rattle.machine.specs.Aging.{is_marked}
-use Rattle.machine.specs.Lists.{HeldLists, Order, Youngest, GoesOn}
+use Rattle.machine.specs.Pages.{Page, Pages, page_at, is_held_in}
+use Rattle.machine.specs.Order.{no_cursor}
+use Rattle.machine.specs.Lists.{HeldLists, Order, Generation, Youngest, GoesOn, kind_at, hits_at_entry, hits_kept, hits_after, hits_with}
 use Rattle.machine.specs.Call.{Past, Caller, entries_of}
 use Rattle.block_store.specs.Device.{Disk}
-use Rattle.book.specs.declared.event.Reply.TheVariants as says
+use Rattle.book_events.specs.declared.event.Reply.TheVariants as says
 use Rattle.turns.specs.declared.turn.Stage.TheVariants as stage
 use Rattle.driver.specs.declared.seat.Outcome.TheVariants.{Goes, Ends}
 use Rattle.turns.specs.declared.turn.Transition.TheVariants as transition
@@ -31,6 +34,27 @@ use Rattle.driver.specs.declared.seat.Activity.{Activity}
 use Rattle.driver.specs.declared.seat.Activity.TheVariants.{Rests, Begun, Does}
 use Rattle.driver.specs.Schedule.{World, Turn, Finishes}
 use Rattle.turns.specs.Turns.{answer_by}
+
+-- where no hit counts, none does later; and by our own placement a hit marks, and none counts
+pub stay_unhit : (generation : Generation) → hits_at_entry generation ≡ 0 → (before after : Pages) (p : ℕ) → 0 ≡ hits_kept generation (is_held_in before p) (is_held_in after p) 0
+stay_unhit generation none before after p = by_held (is_held_in before p) (is_held_in after p)
+  where
+    by_held : (b c : Bool) → 0 ≡ hits_kept generation b c 0
+    by_held true true = refl
+    by_held false true = sym none
+    by_held b false = refl
+
+pub own_unhit : (test : Page → Bool) (marks : List Bool) (pages : Pages) (p : ℕ) → 0 ≡ hits_with Own test (is_marked marks p) 0 (page_at pages p)
+own_unhit test marks pages p = by_slot (page_at pages p)
+  where
+    by_test : (kind : Kind) (b m : Bool) → 0 ≡ cond b (hits_after Own kind m 0) 0
+    by_test kind true true = refl
+    by_test kind true false = refl
+    by_test kind false m = refl
+
+    by_slot : (slot : Option Page) → 0 ≡ hits_with Own test (is_marked marks p) 0 slot
+    by_slot None = refl
+    by_slot (Some page) = by_test (kind_at page.content) (test page) (is_marked marks p)
 
 abbrev r : GroupId
 r = record { 0 = 1 }
@@ -50,10 +74,10 @@ empty = record {
 
 -- no page on a list, and none marked
 abbrev pub lists : HeldLists
-lists = record { groups = new_gens ∷ new_gens ∷ []; marks = false ∷ false ∷ [] }
+lists = record { groups = new_gens ∷ new_gens ∷ []; marks = false ∷ false ∷ []; hits = [] }
 
 abbrev pub order : Order
-order = record { held = lists; cursors = None ∷ None ∷ [] }
+order = record { held = lists; cursors = no_cursor ∷ no_cursor ∷ [] }
 
 abbrev pub caller : Caller
 caller = record { worker = 0 }
@@ -90,7 +114,7 @@ unmarked (suc zero) = refl
 unmarked (suc (suc p)) = refl
 
 unchanged : GoesOn Youngest [] lists [] lists
-unchanged = record { fresh = None; which = λ p. refl; groups = refl; size = refl; marks = unmarked }
+unchanged = record { fresh = None; which = λ p. refl; groups = refl; size = refl; marks = unmarked; counts = refl; hits = stay_unhit Youngest refl [] [] }
 
 -- the first turn sets the max, and the command goes on
 sets : Turn (world opened (Begun set_max)) actor.Shell Goes (world once_set (Does (stage.Lower r)))

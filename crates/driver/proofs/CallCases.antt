@@ -26,9 +26,9 @@ use Rattle.machine.specs.Access.{is_place, task_pages}
 use Rattle.machine.specs.Refusals.{refusal, first_cause, bars_children, bars_tasks, number_refusal, life_refusal, task_refusal, below_refusal, mkdir_refusal, file_refusal, below_target, show_refusal}
 use Rattle.machine.specs.Call.{Past, Caller, Answers, Refuses, Answered, JudgedBy, Called, knows_pass, is_trace_full, leaves_entry, entry_of}
 use Rattle.pages.specs.Tickets.{TicketOf}
-use Rattle.book.specs.declared.event.Reply.{Reply as Book_reply}
-use Rattle.book.specs.declared.event.Reply.TheVariants as said
-use Rattle.book.specs.Events.{reply_of}
+use Rattle.book_events.specs.declared.event.Reply.{Reply as Book_reply}
+use Rattle.book_events.specs.declared.event.Reply.TheVariants as said
+use Rattle.book_events.specs.Events.{reply_of}
 use Rattle.turns.specs.declared.turn.Access.{Access}
 use Rattle.turns.specs.declared.turn.Resume.{Resume}
 use Rattle.turns.specs.declared.turn.Resume.TheVariants as resume

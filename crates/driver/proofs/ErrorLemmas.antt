@@ -23,14 +23,14 @@ use Rattle.machine.specs.declared.control.ControlFile.TheVariants as file
 use Rattle.machine.specs.declared.refusal.Refusal.TheVariants.{NoEntry, Stranger}
 use Rattle.machine.specs.Slots.{at}
 use Rattle.machine.specs.Tree.{Node, find_group}
-use Rattle.machine.specs.Control.{file_named, has_file, amount_of, flag_of}
-use Rattle.machine.specs.State.{free_frames, opening_of}
+use Rattle.machine.specs.Control.{file_named, has_file, amount_of, flag_written}
+use Rattle.machine.specs.State.{Opening, free_frames, opening_of}
 use Rattle.machine.specs.Call.{Past, Caller}
 use Rattle.block_store.specs.declared.device.Fault.{Fault}
 use Rattle.block_store.specs.Device.{Disk, ReadsBlock, WritesBlock}
 use Rattle.pages.specs.Tickets.{TicketOf}
-use Rattle.book.specs.declared.event.Reply.{Reply}
-use Rattle.book.specs.declared.event.Reply.TheVariants as reply
+use Rattle.book_events.specs.declared.event.Reply.{Reply}
+use Rattle.book_events.specs.declared.event.Reply.TheVariants as reply
 use Rattle.turns.specs.declared.turn.Kill.TheVariants as kill
 use Rattle.turns.specs.declared.turn.Access.{Access}
 use Rattle.turns.specs.declared.turn.Resume.{Resume}
@@ -275,15 +275,15 @@ reclaims-owed : (g : ℕ) (a : Amount) → owed_judged (reclaims g a) ≡ 0
 reclaims-owed g amount.Max = refl
 reclaims-owed g (amount.Pages n) = refl
 
-writes-owed : (g : ℕ) (text : List ℕ) (f : ControlFile) → owed_judged (writes_file g text f) ≡ 0
-writes-owed g text file.Current = refl
-writes-owed g text file.Events = refl
-writes-owed g text file.EventsLocal = refl
-writes-owed g text file.Stat = refl
-writes-owed g text file.Max = amount-owed (amount_of text) _ (λ a. refl)
-writes-owed g text (file.Guard guard) = amount-owed (amount_of text) _ (λ a. refl)
-writes-owed g text file.OomGroup = flag-owed (flag_of text) _ (λ flag. refl)
-writes-owed g text file.Reclaim = amount-owed (amount_of text) _ (reclaims-owed g)
+writes-owed : (opening : Opening) (g : ℕ) (text : List ℕ) (f : ControlFile) → owed_judged (writes_file opening g text f) ≡ 0
+writes-owed opening g text file.Current = refl
+writes-owed opening g text file.Events = refl
+writes-owed opening g text file.EventsLocal = refl
+writes-owed opening g text file.Stat = refl
+writes-owed opening g text file.Max = amount-owed (amount_of text) _ (λ a. refl)
+writes-owed opening g text (file.Guard guard) = amount-owed (amount_of text) _ (λ a. refl)
+writes-owed opening g text file.OomGroup = flag-owed (flag_written opening.placement text) _ (λ flag. refl)
+writes-owed opening g text file.Reclaim = amount-owed (amount_of text) _ (reclaims-owed g)
 
 task-owed : (t : ℕ) (what : Command) → owed_judged (task_judged t what) ≡ 0
 task-owed t (command.Access place op) = refl
@@ -292,29 +292,29 @@ task-owed t (command.Free page) = refl
 task-owed t command.Exit = refl
 task-owed t others = refl
 
-shell-owed : (what : Command) (found : List (Option ℕ)) → owed_judged (shell_judged what found) ≡ 0
-shell-owed (command.Access place op) found = refl
-shell-owed (command.Fork child) found = refl
-shell-owed (command.Free page) found = refl
-shell-owed command.Exit found = refl
-shell-owed command.Daemon found = refl
-shell-owed (command.Group path) found = refl
-shell-owed (command.Rmdir path) found = group-owed (at found 0) _ (λ g. refl)
-shell-owed (command.Task t path) found = group-owed (at found 0) _ (λ g. refl)
-shell-owed (command.Attach t path) found = group-owed (at found 0) _ (λ g. refl)
-shell-owed (command.Set path name text) found = group-owed (at found 0) _ (λ g. file-owed g (file_named name) _ (writes-owed g text))
-shell-owed (command.Cat path name) found = group-owed (at found 0) _ (λ g. file-owed g (file_named name) _ (reads-owed g))
-shell-owed (command.Protection guard target path) found = group-owed (at found 0) _ (λ t. group-owed (at found 1) _ (λ g. refl))
+shell-owed : (opening : Opening) (what : Command) (found : List (Option ℕ)) → owed_judged (shell_judged opening what found) ≡ 0
+shell-owed opening (command.Access place op) found = refl
+shell-owed opening (command.Fork child) found = refl
+shell-owed opening (command.Free page) found = refl
+shell-owed opening command.Exit found = refl
+shell-owed opening command.Daemon found = refl
+shell-owed opening (command.Group path) found = refl
+shell-owed opening (command.Rmdir path) found = group-owed (at found 0) _ (λ g. refl)
+shell-owed opening (command.Task t path) found = group-owed (at found 0) _ (λ g. refl)
+shell-owed opening (command.Attach t path) found = group-owed (at found 0) _ (λ g. refl)
+shell-owed opening (command.Set path name text) found = group-owed (at found 0) _ (λ g. file-owed g (file_named name) _ (writes-owed opening g text))
+shell-owed opening (command.Cat path name) found = group-owed (at found 0) _ (λ g. file-owed g (file_named name) _ (reads-owed g))
+shell-owed opening (command.Protection guard target path) found = group-owed (at found 0) _ (λ t. group-owed (at found 1) _ (λ g. refl))
 
 daemon-owed : (what : Command) → owed_judged (daemon_judged what) ≡ 0
 daemon-owed command.Daemon = refl
 daemon-owed others = refl
 
-judged-owed : (tree : List Node) (who : Actor) (what : Command) → owed_judged (judged tree who what) ≡ 0
-judged-owed tree (actor.Task t) what = task-owed t what
-judged-owed tree actor.Shell what = shell-owed what (map (find_group tree) (paths_of actor.Shell what))
-judged-owed tree actor.Control what = shell-owed what (map (find_group tree) (paths_of actor.Control what))
-judged-owed tree actor.Daemon what = daemon-owed what
+judged-owed : (opening : Opening) (tree : List Node) (who : Actor) (what : Command) → owed_judged (judged opening tree who what) ≡ 0
+judged-owed opening tree (actor.Task t) what = task-owed t what
+judged-owed opening tree actor.Shell what = shell-owed opening what (map (find_group tree) (paths_of actor.Shell what))
+judged-owed opening tree actor.Control what = shell-owed opening what (map (find_group tree) (paths_of actor.Control what))
+judged-owed opening tree actor.Daemon what = daemon-owed what
 
 -- ---- answers that name no stranger
 
@@ -379,7 +379,7 @@ judged-balance old new who (Ok now) outcome free was fine turn = stage-balance o
 turn-balance : (old new : World) (who : Actor) (what : Activity) (outcome : Outcome) → activity_of who old.seats ≡ what → AllFine (said_at who outcome) → ActivityTurn old who what outcome new → Evens old (said_at who outcome) new
 turn-balance old new who Rests outcome is fine turn = same-balance old new (said_at who outcome) turn.1 (ap (λ o. errors (said_at who o)) turn.0)
 turn-balance old new who (Begun what) outcome is fine turn =
-    judged-balance old new who (judged old.past.state.tree who what) outcome (judged-owed old.past.state.tree who what) (ap owed is) (outcome_fine who outcome fine) turn
+    judged-balance old new who (judged old.past.state.opening old.past.state.tree who what) outcome (judged-owed old.past.state.opening old.past.state.tree who what) (ap owed is) (outcome_fine who outcome fine) turn
 turn-balance old new who (Does now) outcome is fine turn =
     stage-balance old new who now outcome (let e : owed (activity_of who old.seats) ≡ owed_at now = ap owed is in omega (arith, e)) (outcome_fine who outcome fine) turn
 

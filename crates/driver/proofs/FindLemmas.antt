@@ -13,7 +13,7 @@ use Rattle.machine.specs.Call.{Past, Refuses, Called}
 use Rattle.book.specs.Passes.{PassOf, find_of, keeping, is_current, may_ask, CalledWith}
 use Rattle.book.proofs.PassLemmas.{find-on, may_ask-current}
 use Rattle.turns.specs.Turns.{shell_paths, paths_of}
-use Rattle.turns.specs.Finds.{looking}
+use Rattle.judging.specs.Finds.{looking}
 
 -- it is one by the pass's worker
 pub called-by : (old : Past) (pass : PassOf) (what : Event) (answer : Reply) (new : Past) → is_current old pass ≡ true → CalledWith old pass what answer new → Called old pass.caller what answer new

@@ -9,12 +9,12 @@ use Rattle.machine.specs.declared.reply.Reply.TheVariants as answer
 use Rattle.machine.specs.Slots.{there_and}
 use Rattle.machine.specs.Pages.{frame_at, is_number, has_this_frame, is_frame_taken}
 use Rattle.machine.specs.Call.{Past, Caller, leaves_entry, Called}
-use Rattle.book.specs.declared.event.Event.{Event}
-use Rattle.book.specs.declared.event.Event.TheVariants as event
-use Rattle.book.specs.declared.event.Reply.{Reply}
-use Rattle.book.specs.declared.event.Reply.TheVariants as said
-use Rattle.book.specs.Events.{event_of, reply_of}
-use Rattle.book.specs.Replies.{Replies}
+use Rattle.book_events.specs.declared.event.Event.{Event}
+use Rattle.book_events.specs.declared.event.Event.TheVariants as event
+use Rattle.book_events.specs.declared.event.Reply.{Reply}
+use Rattle.book_events.specs.declared.event.Reply.TheVariants as said
+use Rattle.book_events.specs.Events.{event_of, reply_of}
+use Rattle.book_events.specs.Replies.{Replies}
 use Rattle.legal.proofs.StepLemmas.{access-hits}
 use Rattle.driver.specs.Hits.{HitsWithin}
 use Rattle.turns.specs.Tickets.{OwnEvent}

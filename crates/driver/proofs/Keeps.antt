@@ -20,12 +20,12 @@ use Rattle.machine.specs.declared.control.ControlFile.{ControlFile}
 use Rattle.machine.specs.declared.control.ControlFile.TheVariants as file
 use Rattle.machine.specs.Slots.{at}
 use Rattle.machine.specs.Tree.{Node, find_group}
-use Rattle.machine.specs.State.{free_frames}
+use Rattle.machine.specs.State.{Opening, free_frames}
 use Rattle.machine.specs.Call.{Past, leaves_entry}
-use Rattle.machine.specs.Control.{file_named, has_file, amount_of, flag_of}
-use Rattle.book.specs.declared.event.Event.{Event}
-use Rattle.book.specs.declared.event.Event.TheVariants as event
-use Rattle.book.specs.Events.{event_of}
+use Rattle.machine.specs.Control.{file_named, has_file, amount_of, flag_written}
+use Rattle.book_events.specs.declared.event.Event.{Event}
+use Rattle.book_events.specs.declared.event.Event.TheVariants as event
+use Rattle.book_events.specs.Events.{event_of}
 use Rattle.turns.specs.declared.turn.Kill.TheVariants as kill
 use Rattle.turns.specs.declared.turn.Stage.{Stage}
 use Rattle.turns.specs.declared.turn.Stage.TheVariants as stage
@@ -209,8 +209,8 @@ abbrev pub Plain : Judged → Type 0
 Plain (Ok stage) = number_wanted (in_hand stage) ≡ None
 Plain (Err why) = why ≡ Stranger → ⊥
 
-pub judged-plain : (tree : List Node) (who : Actor) (what : Command) → Plain (judged tree who what)
-judged-plain tree who what = by_actor who
+pub judged-plain : (opening : Opening) (tree : List Node) (who : Actor) (what : Command) → Plain (judged opening tree who what)
+judged-plain opening tree who what = by_actor who
   where
     by_group : (found : Option ℕ) (next : ℕ → Judged) → ((g : ℕ) → Plain (next g)) → Plain (with_group found next)
     by_group None next h = λ e. cc
@@ -246,17 +246,17 @@ judged-plain tree who what = by_actor who
     reclaimed g amount.Max = λ e. cc
     reclaimed g (amount.Pages n) = pages_none g n
 
-    writes : (g : ℕ) (text : List ℕ) (f : ControlFile) → Plain (writes_file g text f)
+    writes : (g : ℕ) (text : List ℕ) (f : ControlFile) → Plain (writes_file opening g text f)
     writes g text file.Current = λ e. cc
     writes g text file.Events = λ e. cc
     writes g text file.EventsLocal = λ e. cc
     writes g text file.Stat = λ e. cc
     writes g text file.Max = by_amount (amount_of text) _ (λ amount. refl)
     writes g text (file.Guard guard) = by_amount (amount_of text) _ (λ amount. refl)
-    writes g text file.OomGroup = by_flag (flag_of text) _ (λ flag. refl)
+    writes g text file.OomGroup = by_flag (flag_written opening.placement text) _ (λ flag. refl)
     writes g text file.Reclaim = by_amount (amount_of text) _ (reclaimed g)
 
-    by_shell : (what : Command) (found : List (Option ℕ)) → Plain (shell_judged what found)
+    by_shell : (what : Command) (found : List (Option ℕ)) → Plain (shell_judged opening what found)
     by_shell (command.Access place op) found = λ e. cc
     by_shell (command.Fork child) found = λ e. cc
     by_shell (command.Free page) found = λ e. cc
@@ -281,7 +281,7 @@ judged-plain tree who what = by_actor who
     by_task t command.Exit = refl
     by_task t others = λ e. cc
 
-    by_actor : (who : Actor) → Plain (judged tree who what)
+    by_actor : (who : Actor) → Plain (judged opening tree who what)
     by_actor (actor.Task t) = by_task t what
     by_actor actor.Shell = by_shell what (map (find_group tree) (paths_of actor.Shell what))
     by_actor actor.Control = by_shell what (map (find_group tree) (paths_of actor.Control what))
@@ -306,7 +306,7 @@ module _ (P : World → Type 0)
 
   turn_keeps : (old new : World) (who : Actor) (at : Activity) (outcome : Outcome) → activity_of who old.seats ≡ at → ActivityTurn old who at outcome new → P old → P new × FineOutcome outcome
   turn_keeps old new who Rests outcome is turn h = (same_world old new turn.1 h, subst FineOutcome (sym turn.0) (λ e. cc))
-  turn_keeps old new who (Begun what) outcome is turn h = judged_keeps old new who (judged old.past.state.tree who what) outcome (ap is_idle is) (judged-plain old.past.state.tree who what) turn h
+  turn_keeps old new who (Begun what) outcome is turn h = judged_keeps old new who (judged old.past.state.opening old.past.state.tree who what) outcome (ap is_idle is) (judged-plain old.past.state.opening old.past.state.tree who what) turn h
   turn_keeps old new who (Does stage) outcome is turn h = turns old new who stage outcome (inl is) turn h
 
   goings_keep : (old new : World) (who : Actor) (outcomes : List Outcome) → Goings old who outcomes new → P old → P new × AllFine (all_said who outcomes)

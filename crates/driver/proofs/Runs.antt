@@ -58,7 +58,7 @@ turn_taken old caller taken new who stage outcome same others turn =
 pub turn_does : (old new : World) (who : Actor) (stage : Stage) (outcome : Outcome) → activity_of who old.seats ≡ Does stage → StageTurn old who stage outcome new → Turn old who outcome new
 turn_does old new who stage outcome is turn = rw is turn
 
-pub turn_begun : (old new : World) (who : Actor) (command : Command) (outcome : Outcome) → activity_of who old.seats ≡ Begun command → JudgedTurn old who (judged old.past.state.tree who command) outcome new
+pub turn_begun : (old new : World) (who : Actor) (command : Command) (outcome : Outcome) → activity_of who old.seats ≡ Begun command → JudgedTurn old who (judged old.past.state.opening old.past.state.tree who command) outcome new
     → Turn old who outcome new
 turn_begun old new who command outcome is turn = rw is turn
 
@@ -85,12 +85,12 @@ judged_taken old taken new who found outcome is turn =
     judged_over (record old { seats = taken }) old.seats new who found outcome (λ what. ap (λ (ss : List Seat). with_activity who what ss) is ∙ with_activity-twice who what Rests old.seats) turn
 
 -- the first turn of a command that was lent, and of one that was not
-pub lent_turn : (old new : World) (who : Actor) (what : Command) (outcome : Outcome) → JudgedTurn old who (judged old.past.state.tree who what) outcome new
+pub lent_turn : (old new : World) (who : Actor) (what : Command) (outcome : Outcome) → JudgedTurn old who (judged old.past.state.opening old.past.state.tree who what) outcome new
     → Turn (record old { seats = with_activity who (Begun what) old.seats }) who outcome new
 lent_turn old new who what outcome turn =
     let at : List Seat = with_activity who (Begun what) old.seats in
     turn_begun (record old { seats = at }) new who what outcome (activity_of-with_activity who (Begun what) old.seats)
-    (judged_over old at new who (judged old.past.state.tree who what) outcome (λ next. sym (with_activity-twice who next (Begun what) old.seats)) turn)
+    (judged_over old at new who (judged old.past.state.opening old.past.state.tree who what) outcome (λ next. sym (with_activity-twice who next (Begun what) old.seats)) turn)
 
 pub lent_begun : (w mid : World) (who : Actor) (what : Bor Command) → mid ≡ with_seat who w → lent_to mid who (Some what) ≡ begun w who what.now
 lent_begun w mid who what is =

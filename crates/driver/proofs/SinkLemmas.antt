@@ -121,7 +121,7 @@ judged-limit old new who (Ok stage) outcome turn = turn.limit
 
 turn-limit : (old new : World) (who : Actor) (at : Activity) (outcome : Outcome) → ActivityTurn old who at outcome new → new.turns ≡ old.turns
 turn-limit old new who Rests outcome turn = stays-limit old new turn.1
-turn-limit old new who (Begun what) outcome turn = judged-limit old new who (judged old.past.state.tree who what) outcome turn
+turn-limit old new who (Begun what) outcome turn = judged-limit old new who (judged old.past.state.opening old.past.state.tree who what) outcome turn
 turn-limit old new who (Does stage) outcome turn = turn.limit
 
 goings-limit : (old new : World) (who : Actor) (outcomes : List Outcome) → Goings old who outcomes new → new.turns ≡ old.turns

@@ -22,12 +22,12 @@ use Rattle.machine.proofs.TreeLemmas.{eq_cases}
 use Rattle.block_store.specs.declared.device.Fault.{Fault}
 use Rattle.block_store.specs.Device.{Disk}
 use Rattle.pages.specs.Tickets.{TicketOf}
-use Rattle.book.specs.declared.event.Event.{Event}
-use Rattle.book.specs.declared.event.Event.TheVariants as event
-use Rattle.book.specs.declared.event.Reply.{Reply}
-use Rattle.book.specs.declared.event.Reply.TheVariants as said
-use Rattle.book.specs.Events.{event_of, reply_of}
-use Rattle.book.specs.Replies.{HandsOut, GivesIn, GivesOut}
+use Rattle.book_events.specs.declared.event.Event.{Event}
+use Rattle.book_events.specs.declared.event.Event.TheVariants as event
+use Rattle.book_events.specs.declared.event.Reply.{Reply}
+use Rattle.book_events.specs.declared.event.Reply.TheVariants as said
+use Rattle.book_events.specs.Events.{event_of, reply_of}
+use Rattle.book_events.specs.Replies.{HandsOut, GivesIn, GivesOut}
 use Rattle.turns.specs.declared.turn.Access.{Access}
 use Rattle.turns.specs.declared.turn.Resume.{Resume}
 use Rattle.turns.specs.declared.turn.Pending.{Pending}

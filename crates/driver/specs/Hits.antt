@@ -1,8 +1,8 @@
 -- What always holds of the marks of hits, and which frame a reply says was hit. No public clause cites it.
 use Rattle.std.specs.Prelude.{◌≡◌, ℕ, ◌^◌, ◌<◌, Some}
 use Rattle.marks.specs.Logs.{IsHarvested}
-use Rattle.book.specs.declared.event.Reply.{Reply}
-use Rattle.book.specs.declared.event.Reply.TheVariants as reply
+use Rattle.book_events.specs.declared.event.Reply.{Reply}
+use Rattle.book_events.specs.declared.event.Reply.TheVariants as reply
 use Rattle.driver.specs.declared.hits.HitMarks.TheInside.{Inside}
 
 -- nobody else has a seat of these marks, and each mark that was set was taken

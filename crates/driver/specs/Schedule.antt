@@ -15,10 +15,10 @@ use Rattle.machine.specs.declared.event.Event.TheVariants as event
 use Rattle.machine.specs.declared.reply.Reply.{Reply as Plain_reply}
 use Rattle.machine.specs.declared.reply.Reply.TheVariants as plain
 use Rattle.block_store.specs.Device.{Disk, bytes_on}
-use Rattle.book.specs.declared.event.Event.{Event}
-use Rattle.book.specs.declared.event.Reply.{Reply}
-use Rattle.book.specs.Events.{event_of, reply_of}
-use Rattle.book.specs.Replies.{KeepsTicket, HandsOut}
+use Rattle.book_events.specs.declared.event.Event.{Event}
+use Rattle.book_events.specs.declared.event.Reply.{Reply}
+use Rattle.book_events.specs.Events.{event_of, reply_of}
+use Rattle.book_events.specs.Replies.{KeepsTicket, HandsOut}
 use Rattle.turns.specs.declared.turn.Pending.{Pending}
 use Rattle.turns.specs.declared.turn.Stage.{Stage}
 use Rattle.turns.specs.declared.turn.Want.{Want}
@@ -144,7 +144,7 @@ JudgedTurn old who (Ok stage) outcome new = StageTurn old who stage outcome new
 -- a turn of an actor that is at this; one without a command is answered idle
 abbrev pub ActivityTurn : World → Actor → Activity → Outcome → World → Type 0
 ActivityTurn old who Rests outcome new = (outcome ≡ Ends (answer.Word word.Idle)) × (new ≡ old)
-ActivityTurn old who (Begun what) outcome new = JudgedTurn old who (judged old.past.state.tree who what) outcome new
+ActivityTurn old who (Begun what) outcome new = JudgedTurn old who (judged old.past.state.opening old.past.state.tree who what) outcome new
 ActivityTurn old who (Does stage) outcome new = StageTurn old who stage outcome new
 
 -- one turn of an actor

@@ -28,6 +28,7 @@ use crate::sink::{Closed, Cut, Sink};
 use crate::{calls, seats};
 use block_store::BlockDevice;
 use book::{Event, Pass};
+use judging::judge::judge;
 use machine::command::{Actor, Answer, Command, Reply, Step, Word};
 use machine::config::Config;
 use machine::refusal::Refusal;
@@ -35,7 +36,6 @@ use schedules::{Entry, Line, Steps};
 use std::alloc::{AllocError, Global};
 use trace::Trace;
 use turns::automaton::{ask, told};
-use turns::judge::judge;
 use turns::turn::{Pending, Stage, Transition, Want};
 
 /// It must be closed.
@@ -169,7 +169,7 @@ impl Desk {
         requires room { length self.old.seats + 4 ≤ self.old.pass.room }
         requires place { SitsAt actor place self.old.seats }
         requires rests { activity_of actor self.old.seats ≡ Activity.Rests }
-        ensures turn { IfOk result (λ outcome. JudgedTurn (world self.old (D.disk device.old)) actor (judged self.old.book.state.tree actor command.now) outcome (world self.new (D.disk device.new))) }
+        ensures turn { IfOk result (λ outcome. JudgedTurn (world self.old (D.disk device.old)) actor (judged self.old.book.state.opening self.old.book.state.tree actor command.now) outcome (world self.new (D.disk device.new))) }
         ensures place { SitsAt actor place self.new.seats }
         ensures on { IsOn self.new (D.disk device.new) }
         ensures same { IsSame (D.disk device.old) (D.disk device.new) }

@@ -1,4 +1,2 @@
-pub mod Buffers
-pub mod Calls
-pub mod Exploring
+pub mod Asked
 pub mod Scenarios

@@ -2,13 +2,11 @@
 //! into two buffers. The crate `memcgrun_c` exports these calls to programs in other languages.
 //!
 //! Each call runs it over a new device, and keeps nothing. It fills each buffer as far as there is room, and
-//! says how many bytes there are. So the caller can ask again with more room. It returns a number of [`status`].
+//! says how many bytes there are. So the caller can ask again with more room. It returns a number of
+//! [`call_buffers::status`].
 #![tactic(auto)]
 
-mod exploration;
-mod said;
 mod scenario;
-pub mod status;
 
 ghost use Rattle.std.specs.Prelude.{◌≡◌, ◌≢◌, ◌⊎◌, ℕ, ◌<◌, ◌≤◌, false, true, List, [], length, codes, IsUtf8, IsOk, Some, IsErr, IfOk, IfErr, OnOk, OnErr};
 ghost use Rattle.std.specs.Str.Lines.{lines};
@@ -20,39 +18,23 @@ ghost use Rattle.printer.specs.Asked.{plain_as, speaks};
 ghost use Rattle.expectations.specs.Expected.{expected_of};
 ghost use Rattle.subcommands.specs.Scripts.{PrintsScript, PrintsPart, EndsScript};
 ghost use Rattle.subcommands.specs.Charted.{ListsScript};
-ghost use Rattle.std.specs.Io.KnownBytes.{Appends};
-ghost use Rattle.script_faults.specs.Told.{IsRefused, AllTold, StartsReport};
-ghost use Rattle.explore.specs.declared.report.Verdict.{Verdict};
-ghost use Rattle.explore.specs.Explores.{Explores};
-ghost use Rattle.embedding.specs.Exploring.{exploration_of, IsWhole, IsPart, IsReasoned};
-ghost use Rattle.embedding.specs.declared.status.TheConstants.{OK, BAD_SCRIPT, NO_MEMORY, REFUSED, DIFFERS, BAD_OPTIONS};
-ghost use Rattle.embedding.specs.Buffers.{Got, Gives};
-ghost use Rattle.embedding.specs.Calls.{placement_of, options_of, chart_options_of, status_by, IsUnsound, WhyNot, Tells, TellsPart, TellsPartNamed, IsStart};
+ghost use Rattle.script_faults.specs.Told.{IsRefused};
+ghost use Rattle.call_buffers.specs.declared.status.TheConstants.{OK, BAD_SCRIPT, NO_MEMORY, REFUSED, DIFFERS, BAD_OPTIONS};
+ghost use Rattle.call_buffers.specs.Buffers.{Gives};
+ghost use Rattle.call_buffers.specs.Calls.{placement_of, status_by, IsUnsound, WhyNot, Tells, TellsPart, TellsPartNamed};
+ghost use Rattle.embedding.specs.Asked.{options_of, chart_options_of};
 ghost use Rattle.embedding.specs.Scenarios.{IsUnsoundScenario};
 
-pub use exploration::ExploreAsked;
-use exploration::explore_status;
-use printer::write_bytes;
-use said::{Said, tell};
+use call_buffers::status::{DIFFERS, OK};
+use call_buffers::{Lengths, Said, give, is_too_long, placement_of, tell, tell_named};
 pub use scenario::ScenarioAsked;
 use scenario::{carry_out, print_script};
 use scripts::ScriptFault;
-use status::{DIFFERS, NO_MEMORY, OK};
 use std::alloc::Global;
-use subcommands::{
-    Checked, Drawing, Fault, Options, Placement, SCRIPT_BYTES, check_script, run_script,
-};
+use subcommands::{Checked, Drawing, Fault, Options, Placement, check_script, run_script};
 
 /// The name that is used for the script's file.
 const NAME: &str = "script";
-
-/// How many bytes each text has. A buffer may have taken only the first of them.
-#[repr(C)]
-#[derive(Clone, Copy)]
-pub struct Lengths {
-    pub out: usize,
-    pub err: usize,
-}
 
 /// What a caller asks of a run besides its answers, by the program's options of these names.
 #[repr(C)]
@@ -73,16 +55,6 @@ pub struct Asked {
     pub quiet: bool,
     /// A few lines at the end say how much was done.
     pub summary: bool,
-}
-
-fn placement_of(as_linux: bool) -> Placement
-    ensures { result ≡ placement_of as_linux }
-{
-    if as_linux {
-        Placement::Linux
-    } else {
-        Placement::Own
-    }
 }
 
 /// The program's options for a run.
@@ -110,40 +82,6 @@ fn chart_options_of(asked: Asked) -> Options
         placement: placement_of(asked.as_linux),
         turns: asked.turns,
         ..Options::default()
-    }
-}
-
-/// Whether the script has more bytes than a script may have.
-fn is_too_long(script: &[u8]) -> bool
-    ensures long { result ≡ true → SCRIPT_BYTES < length script.now }
-    ensures short { result ≡ false → length script.now ≤ SCRIPT_BYTES }
-{
-    script.len() as u64 > SCRIPT_BYTES
-}
-
-/// Copies the bytes for which there is room.
-fn fill(buffer: &mut [u8], bytes: &[u8])
-    ensures got { Got buffer.old buffer.new bytes.now }
-    ensures nothing { bytes.now ≡ [] → buffer.new ≡ buffer.old }
-{
-    let count = buffer.len().min(bytes.len());
-    let (front, _) = buffer.split_at_mut(count);
-    let (taken, _) = bytes.split_at(count);
-    front.copy_from_slice(taken);
-}
-
-/// Copies both texts, and returns their lengths.
-fn give(answers: &[u8], told: &[u8], out: &mut [u8], err: &mut [u8]) -> Lengths
-    ensures out { Gives out.old out.new result.out answers.now }
-    ensures nothing { answers.now ≡ [] → (result.out ≡ 0) × (out.new ≡ out.old) }
-    ensures err { Gives err.old err.new result.err told.now }
-    ensures silent { told.now ≡ [] → (result.err ≡ 0) × (err.new ≡ err.old) }
-{
-    fill(out, answers);
-    fill(err, told);
-    Lengths {
-        out: answers.len(),
-        err: told.len(),
     }
 }
 
@@ -362,19 +300,6 @@ fn judge(
     check_script(alloc, options, NAME, script, line, &mut said)
 }
 
-/// Adds the lines that say why, after the name that is used for the script's file. Returns the status.
-fn tell_named(why: &Fault, said: &mut Said) -> u8
-    requires unsaid { said.old.bytes.items ≡ [] }
-    ensures either { (result ≡ status_by why.now) ⊎ (result ≡ NO_MEMORY) }
-    ensures whole { result ≢ NO_MEMORY → AllTold (Appends (Some (codes "script: ")) (Some said.new.bytes.items)) why.now }
-    ensures start { IsStart (codes "script: ") said.new.bytes.items ⊎ StartsReport why.now (Some (codes "script: ")) (Some said.new.bytes.items) }
-{
-    match write_bytes(said, b"script: ") {
-        Ok(()) => tell(why, said),
-        Err(_) => NO_MEMORY,
-    }
-}
-
 /// Checks a script and returns the status. If it can't be judged, there is no line of a check, and the messages get
 /// the lines that say why.
 fn check_status(
@@ -577,43 +502,5 @@ pub fn expand(
     let mut said = Said::new(alloc);
     let status = expand_status(alloc, text, settings, cuts, &mut script, &mut said);
     *lengths = give(&script, &said.bytes, out, err);
-    status
-}
-
-/// Runs a script's work in the orders of its turns in which calls of the device come first, in every order, or in those
-/// of a sample, as `memcgrun explore` does. Lists the outcomes, or gives the first order with one of them as a script.
-pub fn explore(
-    alloc: Global,
-    script: &[u8],
-    asked: &ExploreAsked,
-    out: &mut [u8],
-    err: &mut [u8],
-    lengths: &mut Lengths,
-) -> u8
-    // One of OK, BAD_SCRIPT, NO_MEMORY, DIFFERS and BAD_OPTIONS.
-    ensures known { (result ≤ NO_MEMORY) ⊎ (result ≡ DIFFERS) ⊎ (result ≡ BAD_OPTIONS) }
-    // OK: all orders were run, or all of the sample, and `out` got the list of their outcomes. The script that shows an
-    // outcome is only tested.
-    ensures explored { result ≡ OK → (bytes : List ℕ) × (verdict : Verdict) × IsWhole verdict × Explores (exploration_of asked.now) script.now verdict (Some []) (Some bytes) × Gives out.old out.new lengths.new.out bytes }
-    ensures partial { result ≡ DIFFERS → (bytes : List ℕ) × (verdict : Verdict) × IsPart verdict × Explores (exploration_of asked.now) script.now verdict (Some []) (Some bytes) × Gives out.old out.new lengths.new.out bytes }
-    ensures reason { (result ≡ BAD_SCRIPT) ⊎ (result ≡ BAD_OPTIONS) → IsReasoned (exploration_of asked.now) script.now result }
-    ensures silent { result ≡ OK → (lengths.new.err ≡ 0) × (err.new ≡ err.old) }
-    // DIFFERS: not all orders were run. BAD_OPTIONS: there is no outcome of the number that is to be shown.
-    ensures faultless { (result ≡ DIFFERS) ⊎ (result ≡ BAD_OPTIONS) → IsFaultless Schedule (lines script.now) }
-    // BAD_SCRIPT, NO_MEMORY and BAD_OPTIONS: `out` got nothing.
-    ensures unprinted { result ≢ OK → result ≢ DIFFERS → (lengths.new.out ≡ 0) × (out.new ≡ out.old) }
-    // A script that is too long or has a faulty line has no other status than BAD_SCRIPT, unless memory runs out. `err`
-    // got `script: ` and then all lines of the reason. BAD_SCRIPT also means that the script has no work, or that its
-    // setup fails.
-    ensures unsound { IsUnsound script.now → (result ≡ BAD_SCRIPT) ⊎ (result ≡ NO_MEMORY) }
-    ensures told { result ≡ BAD_SCRIPT → IsUnsound script.now → (text : List ℕ) × Tells (plain_as (placement_of asked.now.as_linux)) (codes "script") script.now (codes "script: ") text result × Gives err.old err.new lengths.new.err text }
-    // Each buffer got the bytes for which there is room, and their number.
-    ensures out { (bytes : List ℕ) × Gives out.old out.new lengths.new.out bytes }
-    ensures err { (bytes : List ℕ) × Gives err.old err.new lengths.new.err bytes }
-{
-    let mut listed = Vec::new(alloc);
-    let mut said = Said::new(alloc);
-    let status = explore_status(alloc, script, *asked, &mut listed, &mut said);
-    *lengths = give(&listed, &said.bytes, out, err);
     status
 }

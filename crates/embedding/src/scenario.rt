@@ -4,12 +4,12 @@ ghost use Rattle.std.specs.Prelude.{◌≡◌, ◌≢◌, ◌⊎◌, ◌≤◌, 
 ghost use Rattle.std.specs.Str.Lines.{lines};
 ghost use Rattle.scenarios.specs.Scenario.{scenario_of};
 ghost use Rattle.scenario_reports.specs.Faulty.{IsFaulty};
+ghost use Rattle.call_buffers.specs.declared.status.TheConstants.{OK, BAD_SCRIPT, NO_MEMORY, DIFFERS, BAD_OPTIONS};
 ghost use Rattle.embedding.specs.Scenarios.{filled_lines};
 ghost use Rattle.embedding.specs.declared.scenario.Misuse.TheVariants.{Memory};
-ghost use Rattle.embedding.specs.declared.status.TheConstants.{OK, BAD_SCRIPT, NO_MEMORY, DIFFERS, BAD_OPTIONS};
 
-use crate::said::Said;
-use crate::status::{BAD_OPTIONS, BAD_SCRIPT, DIFFERS, NO_MEMORY, OK};
+use call_buffers::Said;
+use call_buffers::status::{BAD_OPTIONS, BAD_SCRIPT, DIFFERS, NO_MEMORY, OK};
 use simulation::{Asked, Failure, Prints, is_setting, try_expand, try_simulate};
 use std::alloc::{AllocError, Global};
 use std::io::Write;

@@ -8,8 +8,8 @@ use Rattle.machine.specs.Eviction.{old_of, old_pages, in_turn, front_run, is_nil
 use Rattle.lru_gen.specs.Gens.{GensOf, sets}
 use Rattle.aging.specs.Groups.{seen_at}
 use Rattle.aging.proofs.GroupLemmas.{change}
-use Rattle.machine.proofs.ListedLemmas.{each-append, each-front, each-back, each-filter, each-weaker, top-each}
-use Rattle.machine.proofs.AgingLemmas.{each-marked, each-three, cleared-all}
+use Rattle.page_lists.proofs.ListedLemmas.{each-append, each-front, each-back, each-filter, each-weaker, top-each}
+use Rattle.page_lists.proofs.AgingLemmas.{each-marked, each-three, cleared-all}
 use Rattle.eviction.proofs.ListLemmas.{each-usable}
 use Rattle.eviction.proofs.SettleLemmas.{first-of}
 use Rattle.eviction.proofs.TurnLemmas.{is_nil-middle, passed-none, each-old_pages, length-in_turn}

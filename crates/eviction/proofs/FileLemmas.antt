@@ -4,7 +4,7 @@ use Rattle.std.specs.List.{list_any}
 use Rattle.std.proofs.lemmas.Bool.{or_parts, eq-eqb}
 use Rattle.machine.specs.Generations.{Listed, has_page, after_in, AreDistinct}
 use Rattle.machine.specs.Aging.{has_mark, is_marked}
-use Rattle.machine.proofs.ListedLemmas.{distinct-middle}
+use Rattle.page_lists.proofs.ListedLemmas.{distinct-middle}
 use Rattle.aging.proofs.PromoteLemmas.{rest_of, at}
 
 -- one of these pages is not marked

@@ -11,8 +11,8 @@ use Rattle.machine.specs.Eviction.{old_pages, front_run, has_usable, to_tail, se
 use Rattle.lru_gen.specs.Gens.{GensOf, gens_of}
 use Rattle.aging.specs.Groups.{seen_at, ChangesOnly}
 use Rattle.eviction.specs.Kept.{ListsSame}
-use Rattle.machine.proofs.ListedLemmas.{each-weaker, has_page-append, none-in, has-split, has-renumbered, has-back, has-beside, each-has, listed-page}
-use Rattle.machine.proofs.AgingLemmas.{length-cleared}
+use Rattle.page_lists.proofs.ListedLemmas.{each-weaker, has_page-append, none-in, has-split, has-renumbered, has-back, has-beside, each-has, listed-page}
+use Rattle.page_lists.proofs.AgingLemmas.{length-cleared}
 use Rattle.lru_gen.proofs.KindLemmas.{each_sent, kind_row, sound_apart}
 use Rattle.aging.proofs.GroupLemmas.{only-other, only-then}
 use Rattle.aging.proofs.AgeLemmas.{cleared-other}

@@ -4,7 +4,7 @@ use Rattle.std.specs.List.{AllByRecursion}
 use Rattle.std.proofs.lemmas.Bool.{cases_Bool, lt-ltb, le-ltb, leb-true, leb-false, ltb-false}
 use Rattle.machine.specs.Generations.{Listed, at_seq, IsRising}
 use Rattle.machine.specs.Eviction.{old_of, front_run, behind_run, is_below, in_turn, is_nil}
-use Rattle.machine.proofs.ListedLemmas.{each-append}
+use Rattle.page_lists.proofs.ListedLemmas.{each-append}
 
 -- ---- what holds of each
 

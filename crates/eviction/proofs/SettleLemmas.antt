@@ -9,7 +9,7 @@ use Rattle.machine.specs.Eviction.{is_old, old_of, least_seq, settled_row, settl
 use Rattle.lru_gen.specs.Gens.{GensOf, gens_of, sets}
 use Rattle.lru_gen.proofs.KindLemmas.{kind_is, row_listed}
 use Rattle.aging.proofs.GroupLemmas.{Change, change, sets-by, only-then}
-use Rattle.machine.proofs.ListedLemmas.{each-weaker, each-test}
+use Rattle.page_lists.proofs.ListedLemmas.{each-weaker, each-test}
 use Rattle.eviction.proofs.ListLemmas.{none-old, old_of-first, usable-first}
 
 pub settled-raised : (kind : Kind) (g : Gens) → on_row kind (settled_row g.max_seq) (on_row kind raised g) ≡ on_row kind (settled_row g.max_seq) g

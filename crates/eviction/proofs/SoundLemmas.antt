@@ -9,10 +9,10 @@ use Rattle.machine.specs.Aging.{Seen, has_mark, is_marked, at_most_three, promot
 use Rattle.machine.specs.Eviction.{old_pages, front_run, behind_run, has_usable, to_tail, sent_back, passed_by, least_seq, settled_row, settled_gens, settled, aged_times, AgesToOld, Picks}
 use Rattle.machine.specs.Pages.{Pages, page_at, is_held_in}
 use Rattle.machine.specs.Slots.{there_and}
-use Rattle.machine.specs.Lists.{HeldLists, seen_of, PicksOf, is_held_of, ListsHeld, AreGenerations}
-use Rattle.machine.proofs.ListedLemmas.{each-append, each-filter, each-map, each-weaker, none-in, has-renumbered, rising-filter, rising-append, distinct-filter, distinct-append, distinct-split}
-use Rattle.machine.proofs.AgingLemmas.{each-marked, clear-keeps, cleared-keeps}
-use Rattle.machine.proofs.HeldLemmas.{at-set, of-held}
+use Rattle.machine.specs.Lists.{HeldLists, seen_of, PicksOf, is_held_of, ListsHeld, AreGenerations, hits_at}
+use Rattle.page_lists.proofs.ListedLemmas.{each-append, each-filter, each-map, each-weaker, none-in, has-renumbered, rising-filter, rising-append, distinct-filter, distinct-append, distinct-split}
+use Rattle.page_lists.proofs.AgingLemmas.{each-marked, clear-keeps, cleared-keeps}
+use Rattle.page_lists.proofs.HeldLemmas.{at-set, of-held}
 use Rattle.lru_gen.proofs.KindLemmas.{sound_rows}
 use Rattle.eviction.proofs.TurnLemmas.{turned, tail-sound, front_run-clear}
 use Rattle.eviction.proofs.AgeLemmas.{each-both, Holds, holds-aged, holds-first, holds-settled, old-there, passed-max, picks-cases}
@@ -349,7 +349,12 @@ module _ (swap : Bool) (held : HeldLists) (g : ℕ) (answer : Option ℕ) (held'
 
   -- the lists are those of the pages that are held, still
   pub picked-held : (pages : Pages) → AreGenerations held → ListsHeld pages held → ListsHeld pages held'
-  picked-held pages sound were = record { rows = λ h kind p. picked-rows sound h kind p ∙ were.rows h kind p; marked = λ p m. by_listed p m (is_listed (gens_at held.groups g) p) refl }
+  picked-held pages sound were =
+      record {
+        rows = λ h kind p. picked-rows sound h kind p ∙ were.rows h kind p;
+        marked = λ p m. by_listed p m (is_listed (gens_at held.groups g) p) refl;
+        counted = λ p gone. ap (λ (x : HeldLists). hits_at x.hits p) picked.lists ∙ were.counted p gone;
+      }
     where
       by_listed : (p : ℕ) → is_marked held'.marks p ≡ true → (b : Bool) → is_listed (gens_at held.groups g) p ≡ b → is_held_in pages p ≡ true
       by_listed p m true e =

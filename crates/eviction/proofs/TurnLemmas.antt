@@ -8,8 +8,8 @@ use Rattle.machine.specs.declared.record.Kind.TheVariants.{Anon, File}
 use Rattle.machine.specs.Generations.{Listed, Row, Gens, row_of, at_seq, without, IsRow, IsGens, AreDistinct, has_page, kind_of, listed, added, isolated}
 use Rattle.machine.specs.Aging.{Seen, has_mark, is_marked}
 use Rattle.machine.specs.Eviction.{is_old, old_of, old_pages, in_turn, front_run, behind_run, is_below, is_nil, has_usable, usable_anon, to_tail, sent_back, passed_by, settled, settled_gens}
-use Rattle.machine.proofs.ListedLemmas.{each-front, each-back, each-filter, none-in, in-none, has_page-without, has-filter, listed-page, rising-filter, distinct-filter}
-use Rattle.machine.proofs.HeldLemmas.{added-sound, oldest-youngest}
+use Rattle.page_lists.proofs.ListedLemmas.{each-front, each-back, each-filter, none-in, in-none, has_page-without, has-filter, listed-page, rising-filter, distinct-filter}
+use Rattle.page_lists.proofs.HeldLemmas.{added-sound, oldest-youngest}
 use Rattle.lru_gen.proofs.KindLemmas.{each_row, in_no_row, kind_is, sound_distinct, sound_apart, sound_rows}
 use Rattle.aging.proofs.PromoteLemmas.{with_pages, in-middle, moved}
 use Rattle.eviction.proofs.ListLemmas.{each-in_turn, each-usable, usable, usable-first, old_of-tail, old_of-first, in_turn-first}

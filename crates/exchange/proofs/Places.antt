@@ -41,7 +41,7 @@ JudgedCallsNot w (Ok stands) = IsNoCall (wants_at w.past stands)
 -- the next turn of an actor that is at this leaves the device alone
 abbrev pub CallsNot : World → Actor → Activity → Type 0
 CallsNot w who Rests = ⊥
-CallsNot w who (Begun what) = JudgedCallsNot w (judged w.past.state.tree who what)
+CallsNot w who (Begun what) = JudgedCallsNot w (judged w.past.state.opening w.past.state.tree who what)
 CallsNot w who (Does stands) = IsNoCall (wants_at w.past stands)
 
 no_ticket : (w : Want) → number_wanted w ≡ None → IsNoCall w
@@ -73,7 +73,7 @@ stage_kind past other e = tt
 -- a turn of a command under way leaves the device alone, or calls it
 pub calls_not : (w : World) (a : Actor) (what : Activity) → is_under_way what ≡ true → calls_device what ≡ false → CallsNot w a what
 calls_not w a Rests u e = cc
-calls_not w a (Begun command) u e = judged_no_call w (judged w.past.state.tree a command) (judged-plain w.past.state.tree a command)
+calls_not w a (Begun command) u e = judged_no_call w (judged w.past.state.opening w.past.state.tree a command) (judged-plain w.past.state.opening w.past.state.tree a command)
 calls_not w a (Does stands) u e = stage_kind w.past stands e
 
 pub under_way_not : (what : Activity) → is_under_way what ≡ true → what ≡ Rests → ⊥
@@ -142,7 +142,7 @@ stage_again old mid a stands shows t c to others = record {
 stage_spares : (old mid : World) (a : Actor) (stands : Stage) (shows : Outcome) (t : StageTurn old a stands shows mid) → IsNoCall (wants_at old.past stands) → mid.disk ≡ old.disk
 stage_spares old mid a stands shows t c = (spares old.caller old.past mid.past old.disk mid.disk old.disk (wants_at old.past stands) t.transition c t.turns).0
 
-moves_judged : (old mid : World) (a : Actor) (what : _) (found : Judged) (shows : Outcome) → found ≡ judged old.past.state.tree a what → activity_of a old.seats ≡ Begun what → JudgedCallsNot old found → JudgedTurn old a found shows mid → Moves old mid a shows
+moves_judged : (old mid : World) (a : Actor) (what : _) (found : Judged) (shows : Outcome) → found ≡ judged old.past.state.opening old.past.state.tree a what → activity_of a old.seats ≡ Begun what → JudgedCallsNot old found → JudgedTurn old a found shows mid → Moves old mid a shows
 moves_judged old mid a what (Err why) shows f is c t = record {
   leaves = Rests;
   disk = ap (λ (w : World). w.disk) t.1;
@@ -169,7 +169,7 @@ moves_judged old mid a what (Ok stands) shows f is c t = record {
 
 moves : (old mid : World) (a : Actor) (what : Activity) (shows : Outcome) → activity_of a old.seats ≡ what → CallsNot old a what → ActivityTurn old a what shows mid → Moves old mid a shows
 moves old mid a Rests shows is c t = absurd c
-moves old mid a (Begun command) shows is c t = moves_judged old mid a command (judged old.past.state.tree a command) shows refl is c t
+moves old mid a (Begun command) shows is c t = moves_judged old mid a command (judged old.past.state.opening old.past.state.tree a command) shows refl is c t
 moves old mid a (Does stands) shows is c t = record {
   leaves = left_of t.transition;
   disk = stage_spares old mid a stands shows t c;
@@ -242,7 +242,7 @@ judged_seats w m a (Ok stands) shows t = (left_of t.transition, t.leaves)
 -- its own alone
 own_seat : (w m : World) (a : Actor) (what : Activity) (shows : Outcome) → is_under_way what ≡ true → ActivityTurn w a what shows m → (x : Activity) × (m.seats ≡ with_activity a x w.seats)
 own_seat w m a Rests shows u t = cc
-own_seat w m a (Begun command) shows u t = judged_seats w m a (judged w.past.state.tree a command) shows t
+own_seat w m a (Begun command) shows u t = judged_seats w m a (judged w.past.state.opening w.past.state.tree a command) shows t
 own_seat w m a (Does stands) shows u t = (left_of t.transition, t.leaves)
 
 pub others_stay : (w m : World) (a b : Actor) (shows : Outcome) → (number_of a ≡ number_of b → ⊥) → is_under_way (activity_of a w.seats) ≡ true → Turn w a shows m → activity_of b m.seats ≡ activity_of b w.seats

@@ -11,6 +11,7 @@ use control_files::{file_named, has_file, parse_amount, parse_flag};
 use machine::amount::Amount;
 use machine::bytes::PAGE_BYTES;
 use machine::command::{Actor, Command, Word};
+use machine::config::Placement;
 use machine::control::ControlFile;
 use machine::event::Place;
 use machine::id::GroupId;
@@ -366,12 +367,13 @@ fn not_set<'a>(told: Told<'a>, file: &'a str, text: &'a str) -> Option<Reason<'a
     }
 }
 
-/// A flag is written by one of two texts.
+/// A flag is written by one of two texts. What Linux's placement refuses, our own refuses too, so that the run's
+/// placement does not matter here.
 fn no_flag<'a>(told: Told<'a>, text: &'a str) -> Option<Reason<'a>>
     requires { text_in told.command.now ≡ Some text.now }
     ensures { IfSome result (IsSo told.entry.actor told.entry.command.now) }
 {
-    match parse_flag(text) {
+    match parse_flag(Placement::Own, text) {
         Some(_) => None,
         None => Some(Reason::NoFlag(text)),
     }

@@ -11,7 +11,7 @@ use Rattle.machine.specs.Generations.{Listed, Gens, IsGens, new_gens, row_of, ha
 use Rattle.machine.specs.Aging.{Seen, is_marked}
 use Rattle.machine.specs.Eviction.{has_usable, is_old, old_of, old_pages, passed_by, aged_times, AgesToOld, Picks}
 use Rattle.machine.specs.Lists.{HeldLists, seen_of, is_held_of, ListsHeld, AreGenerations, PicksOf}
-use Rattle.machine.proofs.ListedLemmas.{each-filter, each-has}
+use Rattle.page_lists.proofs.ListedLemmas.{each-filter, each-has}
 use Rattle.machine.proofs.TreeLemmas.{eq_cases}
 use Rattle.lru_gen.specs.Gens.{GensOf, gens_of}
 use Rattle.aging.specs.Groups.{seen_at, ChangesOnly}
@@ -31,26 +31,27 @@ listed-where (x ∷ xs) p h = by_first (listed-where xs p) (is_listed x p) refl 
     by_first rest false here e = let found = rest e in (suc found.0, found.1)
 
 -- what the page is that the search found
-module _ (old new : GensOf) (marks marks' : List Bool) (g : ℕ) (only : ChangesOnly g old new) where
+module _ (old new : GensOf) (marks marks' : List Bool) (hits : List ℕ) (g : ℕ) (only : ChangesOnly g old new) where
   lists : HeldLists
-  lists = record { groups = old.groups; marks = marks }
+  lists = record { groups = old.groups; marks = marks; hits = hits }
 
   lists' : HeldLists
-  lists' = record { groups = new.groups; marks = marks' }
+  lists' = record { groups = new.groups; marks = marks'; hits = hits }
 
   pub searched-picks : (swap_free : Bool) (answer : Option ℕ) → Picks swap_free (seen_at g old marks) answer (seen_at g new marks')
-      → PicksOf swap_free (let l : HeldLists = record { groups = old.groups; marks = marks } in l) g answer (let l : HeldLists = record { groups = new.groups; marks = marks' } in l)
+      → PicksOf swap_free (let l : HeldLists = record { groups = old.groups; marks = marks; hits = hits } in l) g answer (let l : HeldLists = record { groups = new.groups; marks = marks'; hits = hits } in l)
   searched-picks swap_free answer picks =
-      record { seen = seen_at g new marks'; picks = picks; lists = ap (λ (s : GensOf). let l : HeldLists = record { groups = s.groups; marks = marks' } in l) only }
+      record { seen = seen_at g new marks'; picks = picks; lists = ap (λ (s : GensOf). let l : HeldLists = record { groups = s.groups; marks = marks'; hits = hits } in l) only }
 
   pub searched-rows : ((h : ℕ) → ListsSame (gens_of old h) (gens_of new h)) → length marks' ≡ length marks → ((p : ℕ) → is_listed (gens_of old g) p ≡ false → is_marked marks' p ≡ is_marked marks p)
-      → KeepsRows (let l : HeldLists = record { groups = old.groups; marks = marks } in l) (let l : HeldLists = record { groups = new.groups; marks = marks' } in l)
+      → KeepsRows (let l : HeldLists = record { groups = old.groups; marks = marks; hits = hits } in l) (let l : HeldLists = record { groups = new.groups; marks = marks'; hits = hits } in l)
   searched-rows same size others =
       record {
         groups = ap (λ (s : GensOf). length s.groups) only ∙ length-set old.groups g (gens_of new g);
         rows = row;
         size = size;
         marks = λ p none. others p (none g);
+        hits = refl;
       }
     where
       row : (h : ℕ) (kind : Kind) (p : ℕ) → has_page p (row_of kind (gens_at new.groups h)).pages ≡ has_page p (row_of kind (gens_at old.groups h)).pages

@@ -2,15 +2,19 @@
 //! their marks as accessed, so a page that leaves its list also loses its mark.
 //!
 //! A new page enters the youngest generation of its group and type. A page that was read in enters the generation
-//! that the placement chooses. No page enters with a mark. Only the calls that open and reserve allocate memory.
+//! that the placement chooses. No page enters with a mark. The placement determines how many hits mark a page. Only
+//! the calls that open and reserve allocate memory.
 #![tactic(auto)]
+
+mod hit_counts;
 
 ghost use Rattle.std.specs.Prelude.{◌≡◌, ◌≢◌, ℕ, ◌+◌, ◌-◌, ◌<◌, ◌≤◌, ◌^◌, ◌∷◌, [], true, false, Some, None, IfOk, OnOk, length, replicate, slice_set};
 ghost use Rattle.machine.specs.Generations.{new_gens, gens_at, handed_over, is_listed, is_listed_in};
 ghost use Rattle.machine.specs.Eviction.{has_usable};
 ghost use Rattle.machine.specs.Lists.{entry_after, second_oldest, with_group, AreGenerations, PicksOf, Youngest};
-ghost use Rattle.held_pages.specs.Held.{HeldOf, entered, left, KeepsRows};
+ghost use Rattle.held_pages.specs.Held.{HeldOf, entered, left, hit, KeepsRows};
 
+use crate::hit_counts::HitCounts;
 use aging::MarkSet;
 use eviction::pick;
 use lru_gen::Gens;
@@ -20,12 +24,13 @@ use machine::record::{Direction, Kind};
 use std::alloc::{AllocError, Global};
 use std::marker::Model;
 
-/// The generation lists of all groups, and the marks of all pages. Only [`HeldPages::open`] and
-/// [`HeldPages::reserve_group`] allocate memory.
+/// The generation lists of all groups, the marks of all pages, and how often those were hit that have no mark. Only
+/// [`HeldPages::open`] and [`HeldPages::reserve_group`] allocate memory.
 #[derive(Drop)]
 pub struct HeldPages {
     gens: Gens,
     marks: MarkSet,
+    hits: HitCounts,
 }
 
 impl Model for HeldPages {
@@ -35,9 +40,9 @@ impl Model for HeldPages {
 
     ghost use Rattle.std.specs.Prelude.{◌≡◌, length};
 
-    ghost view = { λ h. record { lists = record { groups = h.gens.groups; marks = h.marks }; numbers = h.gens.pages; room = h.gens.room } };
+    ghost view = { λ h. record { lists = record { groups = h.gens.groups; marks = h.marks; hits = h.hits }; numbers = h.gens.pages; room = h.gens.room } };
 
-    ghost invariant = { λ h. length h.marks ≡ h.gens.pages };
+    ghost invariant = { λ h. (length h.marks ≡ h.gens.pages) × (length h.hits ≡ h.gens.pages) };
 }
 
 impl HeldPages {
@@ -45,13 +50,15 @@ impl HeldPages {
     pub fn open(alloc: Global, numbers: u32) -> Result<HeldPages, AllocError>
         ensures groups { IfOk result (λ h. h.lists.groups ≡ new_gens ∷ []) }
         ensures marks { IfOk result (λ h. h.lists.marks ≡ replicate numbers false) }
+        ensures hits { IfOk result (λ h. h.lists.hits ≡ replicate numbers 0) }
         ensures numbers { IfOk result (λ h. h.numbers ≡ numbers) }
     {
         let mut gens = Gens::open(alloc, numbers as usize)?;
         gens.reserve_group()?;
         gens.add_group_reserved();
         let marks = MarkSet::open(alloc, numbers as usize)?;
-        Ok(HeldPages { gens, marks })
+        let hits = HitCounts::open(alloc, numbers as usize)?;
+        Ok(HeldPages { gens, marks, hits })
     }
 
     /// The generation lists.
@@ -75,6 +82,7 @@ impl HeldPages {
         ensures generations { AreGenerations self.now.lists }
         ensures apart { (g h p : ℕ) → is_listed (gens_at self.now.lists.groups g) p ≡ true → is_listed (gens_at self.now.lists.groups h) p ≡ true → g ≡ h }
         ensures size { length self.now.lists.marks ≡ self.now.numbers }
+        ensures counts { length self.now.lists.hits ≡ self.now.numbers }
     {
         self.gens.is_sound();
     }
@@ -105,10 +113,12 @@ impl HeldPages {
         self.gens.is_sound();
         let seq = self.gens.max_seq(group);
         self.gens.add(group, page, kind, seq);
+        self.hits.set(page, 0);
     }
 
     /// Adds the page to the end of the generation that this placement chooses for it (kernel: folio_putback_lru,
-    /// lru_gen_add_folio). Its transfer in this direction has ended, and it is on no list.
+    /// lru_gen_add_folio). Its transfer in this direction has ended, and it is on no list. As Linux places pages, its
+    /// read-in is its first hit.
     pub fn putback(
         &mut self,
         group: GroupId,
@@ -130,6 +140,11 @@ impl HeldPages {
             (Direction::In, Placement::Linux, Kind::File) => self.second_oldest(group),
         };
         self.gens.add(group, page, kind, seq);
+        let hits = match (direction, placement) {
+            (Direction::In, Placement::Linux) => 1,
+            (Direction::Out, _) | (Direction::In, Placement::Own) => 0,
+        };
+        self.hits.set(page, hits);
     }
 
     /// The number of the second oldest generation of file pages, unless that is one of the two youngest. Then the
@@ -147,7 +162,8 @@ impl HeldPages {
         }
     }
 
-    /// Removes the page from its list, with its mark. All others keep their places (kernel: folio_isolate_lru).
+    /// Removes the page from its list, with its mark and its hits. All others keep their places (kernel:
+    /// folio_isolate_lru).
     pub fn isolate(&mut self, page: PageId)
         requires listed { is_listed_in self.old.lists.groups page.0 ≡ true }
         requires number { page.0 < self.old.numbers }
@@ -155,6 +171,7 @@ impl HeldPages {
     {
         self.gens.isolate(page);
         self.marks.clear(page);
+        self.hits.clear(page);
     }
 
     /// Removes the page from its list, with its mark, if it is on one.
@@ -169,23 +186,34 @@ impl HeldPages {
     }
 
     /// Moves all pages of one group to the end of another's second youngest generation, the oldest first. They
-    /// keep their marks.
+    /// keep their marks and their hits.
     pub fn take_over(&mut self, from: GroupId, to: GroupId)
         requires from { from.0 < length self.old.lists.groups }
         requires to { to.0 < length self.old.lists.groups }
         requires apart { from.0 ≢ to.0 }
-        ensures { self.new ≡ record self.old { lists = record { groups = handed_over from.0 to.0 self.old.lists.groups; marks = self.old.lists.marks } } }
+        ensures { self.new ≡ record self.old { lists = record { groups = handed_over from.0 to.0 self.old.lists.groups; marks = self.old.lists.marks; hits = self.old.lists.hits } } }
     {
         self.gens.take_over(from, to);
     }
 
-    /// Marks the page as accessed.
-    pub fn mark(&mut self, page: PageId)
+    /// Hits the page, which is of this type: an access found it. After so many hits as the placement requires it is
+    /// marked as accessed, and the count ends (kernel: mark_page_accessed, folio_inc_refs).
+    pub fn hit(&mut self, page: PageId, kind: Kind, placement: Placement)
         requires { page.0 < self.old.numbers }
-        ensures marked { self.new ≡ record self.old { lists = record { groups = self.old.lists.groups; marks = slice_set self.old.lists.marks page.0 true } } }
+        ensures hit { self.new ≡ record self.old { lists = hit self.old.lists placement kind page.0 } }
         ensures size { length self.old.lists.marks ≡ self.old.numbers }
+        ensures counts { length self.old.lists.hits ≡ self.old.numbers }
     {
-        self.marks.set(page);
+        if self.marks.is_marked(page) {
+            return;
+        }
+        let before = self.hits.of(page);
+        let is_last = u32::from(before) + 1 >= placement.hits_to_mark(kind);
+        if is_last {
+            self.marks.set(page);
+        }
+        let hits = if is_last { 0 } else { before + 1 };
+        self.hits.set(page, hits);
     }
 
     /// The page of the group that is evicted next. It is still on its list.

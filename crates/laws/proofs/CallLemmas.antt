@@ -1,12 +1,13 @@
 -- What one call leaves of the lists of held pages and of the order in which they leave.
-use Rattle.std.proofs.Common.{◌≡◌, inl, inr, ℕ, ◌+◌, ◌≤◌, ◌==◌, ◌&&◌, ◌||◌, not, Bool, true, false, List, [], ◌∷◌, ◌++◌, length, Option, Some, None, eqb-true, arith, refl, sym, ap, ◌∙◌, subst, length-append, length-set}
-use Rattle.std.specs.Prelude.{◌⊎◌, MatchBool, slice_set}
-use Rattle.std.specs.List.{AllByRecursion}
+use Rattle.std.proofs.Common.{◌≡◌, inl, inr, ℕ, ◌+◌, ◌-◌, ◌<◌, ◌≤◌, ◌==◌, ◌&&◌, ◌||◌, not, Bool, true, false, List, [], ◌∷◌, ◌++◌, length, Option, Some, None, eqb-true, arith, refl, sym, ap, ◌∙◌, subst, length-append, length-set}
+use Rattle.std.specs.Prelude.{◌⊎◌, MatchBool, if◌then◌else◌, slice_set}
+use Rattle.std.specs.List.{AllByRecursion, list_any}
 use Rattle.std.proofs.lemmas.Bool.{and_parts, true≢false}
 use Rattle.std.proofs.lemmas.Bool.Decides.{nat_tests}
-use Rattle.std.proofs.lemmas.List.{length-replicate}
+use Rattle.std.proofs.lemmas.List.{length-replicate, get_or-set_same}
 use Rattle.machine.specs.declared.id.GroupId.{GroupId}
 use Rattle.machine.specs.declared.entry.Entry.{Entry}
+use Rattle.machine.specs.declared.config.Placement.{Placement}
 use Rattle.machine.specs.declared.event.Goal.{Goal}
 use Rattle.machine.specs.declared.event.Goal.TheVariants.{Amount}
 use Rattle.machine.specs.declared.event.Event.{Event}
@@ -16,34 +17,34 @@ use Rattle.machine.specs.declared.refusal.Refusal.TheVariants.{Stranger, TraceFu
 use Rattle.machine.specs.declared.reply.Reply.{Reply}
 use Rattle.machine.specs.declared.reply.Reply.TheVariants as reply
 use Rattle.machine.specs.Slots.{there_and}
-use Rattle.machine.specs.Tree.{Node, node_at}
+use Rattle.machine.specs.Tree.{Node, node_at, under}
 use Rattle.machine.specs.Pages.{Page, Pages, page_at, is_anon, is_held, is_held_in, in_transfer}
-use Rattle.machine.specs.State.{Opening, State, page_numbers, first_state, is_swap_free}
+use Rattle.machine.specs.State.{Opening, State, page_numbers, usage, first_state, is_swap_free}
 use Rattle.machine.specs.Reclaim.{target_of, goal_of, goal_in}
 use Rattle.machine.specs.Generations.{Gens, new_gens, of_kind, row_of, gens_at}
 use Rattle.machine.specs.Aging.{is_marked, has_mark}
 use Rattle.machine.specs.Eviction.{old_pages}
-use Rattle.machine.specs.Order.{heeds_age}
-use Rattle.machine.specs.Lists.{HeldLists, Order, gives_old, Orders, first_order, PicksOf, is_held_of, ListsHeld, AreGenerations, Generation, Youngest, generation_for, GoesOn, is_in_bits, MergesMarks, with_group, TakesNext, AddsLists, RemovesLists, Keeps}
+use Rattle.machine.specs.Order.{Cursor, no_cursor, cursor_at, in_turn, heeds_age, takes_parts, round_unit, new_turn, cursor_after}
+use Rattle.machine.specs.Lists.{HeldLists, Order, hits_at, kind_at, is_last_hit, is_marking, gives, gives_old, Orders, first_order, cursor_served, PicksOf, is_held_of, ListsHeld, AreGenerations, Generation, Youngest, generation_for, GoesOn, is_in_bits, MergesMarks, with_group, TakesNext, AddsLists, RemovesLists, Keeps}
 use Rattle.machine.specs.Refusals.{refusal}
 use Rattle.machine.specs.Call.{Past, Caller, Answers, Refuses, Answered, JudgedBy, Called, knows_pass, is_trace_full}
 use Rattle.machine.specs.Step.{new_node, Removes, Step}
 use Rattle.machine.specs.Legal.{Legal}
 use Rattle.machine.proofs.Values.{some_inj, unlike}
 use Rattle.machine.proofs.TreeLemmas.{eq_cases}
-use Rattle.machine.proofs.CursorLemmas.{cursors-push, cursors-set}
+use Rattle.page_lists.proofs.CursorLemmas.{cursors-push, cursors-set}
 use Rattle.legal.proofs.Did.{is_rmdir, changes_groups}
 use Rattle.legal.proofs.OpeningLemmas.{tree_after, step_opening, step_tree}
-use Rattle.machine.proofs.HeldLemmas.{held-go_on, gens_at-more, held-group, generations-group, goes_length, goes-max, goes-min, generations-go_on, first-held, first-generations}
+use Rattle.page_lists.proofs.HeldLemmas.{held-go_on, gens_at-more, held-group, generations-group, goes_length, goes-max, goes-min, generations-go_on, first-held, first-generations}
 use Rattle.legal.proofs.StepLemmas.{step-places, mkdir-pages, legal-lists}
-use Rattle.legal.proofs.RemovedCounts.{removal, SameNumbers, numbers-handed, length-handed, handed, held-removed, generations-removed}
+use Rattle.legal.proofs.RemovedCounts.{live-above, removal, SameNumbers, numbers-handed, length-handed, handed, held-removed, generations-removed}
 use Rattle.legal.proofs.OrdersLemmas.{orders_alike}
 use Rattle.legal.proofs.ServedLemmas.{served-has_old}
-use Rattle.legal.proofs.SoundLemmas.{legal-sound}
+use Rattle.legal.proofs.SoundLemmas.{live-below, legal-sound, legal-fit}
 use Rattle.eviction.proofs.SoundLemmas.{picked-length, picked-generations, picked-size, picked-held, picked-of, picked-marked, picked-unmarked}
 use Rattle.machine.specs.Events.{took_for}
 use Rattle.laws.specs.Laws.{TakesUnprotected, ListsGoOn, HeldPagesGoOn, KeepNumbers, OnlyTakesAge, OnlyMergesMark, ChangesMarksAlone, MergesChangeMarksAlone, LeavesInOrder, OrdersAreSettled}
-use Rattle.machine.proofs.MergeLemmas.{held-merged, generations-merged}
+use Rattle.page_lists.proofs.MergeLemmas.{held-merged, generations-merged}
 use Rattle.legal.proofs.TransferLemmas.{legal-room}
 use Rattle.laws.proofs.LawLemmas.{by_test}
 use Rattle.laws.proofs.ReclaimLemmas.{reclaims_spare_the_protected}
@@ -86,7 +87,7 @@ orders_or : {P : Type 0} (old new : State) (order order' : Order) (what : Event)
     → ((goal : Goal) (target : ℕ) → took_for what answer ≡ Some target → changes_groups what ≡ false → TakesNext old order goal target new order' → P)
     → ((path : List ℕ) → what ≡ event.Mkdir path → AddsLists order order' → P)
     → ((g : GroupId) → what ≡ event.Rmdir g → RemovesLists (node_at old.tree g.0).parent g.0 order order' → P)
-    → ((word bits : ℕ) → what ≡ event.MergeMarks word bits → MergesMarks old.pages word bits order.held order'.held × (order'.cursors ≡ order.cursors) → P)
+    → ((word bits : ℕ) → what ≡ event.MergeMarks word bits → MergesMarks old.opening.placement old.pages word bits order.held order'.held × (order'.cursors ≡ order.cursors) → P)
     → (changes_groups what ≡ false → Keeps old order what answer new order' → P)
     → Orders old order what answer new order' → P
 orders_or old new order order' (event.Relieve cause) (reply.Out ticket) takes adds removes merges keeps h = takes (goal_of cause) (target_of cause) refl refl h
@@ -165,21 +166,21 @@ module _ (opening : Opening) (history : List Entry) (old new : State) (order ord
       let swap : Bool = is_swap_free old in
       goes-ordered Youngest h.looked same h.leaves (picked-held swap order.held h.g (Some h.p) h.looked h.picked old.pages was.sound was.listed)
       (picked-generations swap order.held h.g (Some h.p) h.looked h.picked was.sound) (picked-length swap order.held h.g (Some h.p) h.looked h.picked ∙ was.groups)
-      (picked-size swap order.held h.g (Some h.p) h.looked h.picked was.sound ∙ was.marks) (cursors-set order.cursors order'.cursors target h.g h.moves ∙ was.cursors)
+      (picked-size swap order.held h.g (Some h.p) h.looked h.picked was.sound ∙ was.marks) (cursors-set order.cursors order'.cursors target _ h.moves ∙ was.cursors)
 
   ordered-keeps : changes_groups what ≡ false → Keeps old order what answer new order' → IsInOrder old order → IsInOrder new order'
   ordered-keeps same h was =
-      goes-ordered (generation_for old.opening.placement what) order.held same h.0 was.listed was.sound was.groups was.marks (ap (λ (xs : List (Option ℕ)). length xs) h.1 ∙ was.cursors)
+      goes-ordered (generation_for old.opening.placement what) order.held same h.0 was.listed was.sound was.groups was.marks (ap (λ (xs : List Cursor). length xs) h.1 ∙ was.cursors)
 
-  ordered-merges : (word bits : ℕ) → what ≡ event.MergeMarks word bits → MergesMarks old.pages word bits order.held order'.held × (order'.cursors ≡ order.cursors) → IsInOrder old order → IsInOrder new order'
+  ordered-merges : (word bits : ℕ) → what ≡ event.MergeMarks word bits → MergesMarks old.opening.placement old.pages word bits order.held order'.held × (order'.cursors ≡ order.cursors) → IsInOrder old order → IsInOrder new order'
   ordered-merges word bits e h was =
       subst (λ (s : State). IsInOrder s order') (sym (merge-same old new word bits answer (subst (λ (w : Event). Step old w answer new) e step)))
       (record {
-        listed = held-merged old.pages word bits order.held order'.held h.0 was.listed;
-        sound = generations-merged old.pages word bits order.held order'.held h.0 was.sound;
+        listed = held-merged old.opening.placement old.pages word bits order.held order'.held h.0 was.listed;
+        sound = generations-merged old.opening.placement old.pages word bits order.held order'.held h.0 was.sound;
         groups = ap (λ (xs : List Gens). length xs) h.0.groups ∙ was.groups;
         marks = h.0.size ∙ was.marks;
-        cursors = ap (λ (xs : List (Option ℕ)). length xs) h.1 ∙ was.cursors;
+        cursors = ap (λ (xs : List Cursor). length xs) h.1 ∙ was.cursors;
       })
 
   ordered-adds : (path : List ℕ) → what ≡ event.Mkdir path → AddsLists order order' → IsInOrder old order → IsInOrder new order'
@@ -193,7 +194,7 @@ module _ (opening : Opening) (history : List Entry) (old new : State) (order ord
         sound = generations-group order.held was.sound;
         groups = length-append order.held.groups (new_gens ∷ []) ∙ ap (λ n. n + 1) was.groups ∙ sym (length-append old.tree (node ∷ [])) ∙ sym longer;
         marks = was.marks ∙ sym (ap (λ (o : Opening). page_numbers o) (step_opening old what answer new step));
-        cursors = cursors-push old.tree node order.cursors (order.cursors ++ None ∷ []) was.cursors refl ∙ sym longer;
+        cursors = cursors-push old.tree node order.cursors (order.cursors ++ no_cursor ∷ []) was.cursors refl ∙ sym longer;
       })
 
   ordered-removes : (g : GroupId) → what ≡ event.Rmdir g → RemovesLists (node_at old.tree g.0).parent g.0 order order' → IsInOrder old order → IsInOrder new order'
@@ -201,14 +202,14 @@ module _ (opening : Opening) (history : List Entry) (old new : State) (order ord
       let removes : Removes old g.0 new = removal old new g answer (subst (λ (w : Event). Step old w answer new) e step) in
       let falls = (legal-sound opening history new legal).1.falls in
       let after : HeldLists = handed old new g.0 removes falls order.held was.groups in
-      let is : order' ≡ (let o : Order = record { held = after; cursors = slice_set order.cursors g.0 None } in o) = lists-removed (node_at old.tree g.0).parent removes.parent g.0 order order' removes.below h in
+      let is : order' ≡ (let o : Order = record { held = after; cursors = slice_set order.cursors g.0 no_cursor } in o) = lists-removed (node_at old.tree g.0).parent removes.parent g.0 order order' removes.below h in
       let tree : length new.tree ≡ length old.tree = ap (λ (s : State). length s.tree) removes.state ∙ length-set old.tree g.0 (record (node_at old.tree g.0) { live = false }) in
       subst (λ (o : Order). IsInOrder new o) (sym is) (record {
         listed = held-removed old new g.0 removes falls order.held was.groups was.listed;
         sound = generations-removed old new g.0 removes falls order.held was.groups was.listed was.sound;
         groups = length-handed order.held.groups g.0 removes.parent ∙ was.groups ∙ sym tree;
         marks = was.marks ∙ sym (ap (λ (o : Opening). page_numbers o) (step_opening old what answer new step));
-        cursors = length-set order.cursors g.0 None ∙ was.cursors ∙ sym tree;
+        cursors = length-set order.cursors g.0 no_cursor ∙ was.cursors ∙ sym tree;
       })
 
   ordered-step : Orders old order what answer new order' → IsInOrder old order → IsInOrder new order'
@@ -258,15 +259,23 @@ only_takes_age old new caller what answer none called =
 goes-marked : (generation : Generation) (before after : Pages) (held held' : HeldLists) → GoesOn generation before held after held' → (p : ℕ) → is_marked held'.marks p ≡ true → is_marked held.marks p ≡ true
 goes-marked generation before after held held' goes p m = (and_parts (is_held_in before p && is_held_in after p) (is_marked held.marks p) (sym (goes.marks p) ∙ m)).1
 
+-- the merge names the page, and this hit is its last
+abbrev pub is_named : State → HeldLists → ℕ → ℕ → ℕ → Bool
+is_named s held word bits p = is_marking s.opening.placement (is_in_bits word bits) (hits_at held.hits p) (page_at s.pages p)
+
 -- one that is marked after a merge was marked before, or the merge names it
-merged-before : (pages : Pages) (word bits : ℕ) (held held' : HeldLists) → MergesMarks pages word bits held held' → (p : ℕ) → is_marked held'.marks p ≡ true → (is_marked held.marks p ≡ true) ⊎ (there_and (is_in_bits word bits) (page_at pages p) ≡ true)
-merged-before pages word bits held held' h p m = by_mark (is_marked held.marks p) (there_and (is_in_bits word bits) (page_at pages p)) refl refl (sym (h.marks p) ∙ m)
+merged-before : (s : State) (word bits : ℕ) (held held' : HeldLists) → MergesMarks s.opening.placement s.pages word bits held held' → (p : ℕ) → is_marked held'.marks p ≡ true → (is_marked held.marks p ≡ true) ⊎ (is_named s held word bits p ≡ true)
+merged-before s word bits held held' h p m = by_mark (is_marked held.marks p) (is_named s held word bits p) refl refl (sym (h.marks p) ∙ m)
   where
-    by_mark : (a b : Bool) → is_marked held.marks p ≡ a → there_and (is_in_bits word bits) (page_at pages p) ≡ b → (is_marked held.marks p || there_and (is_in_bits word bits) (page_at pages p)) ≡ true
-        → (is_marked held.marks p ≡ true) ⊎ (there_and (is_in_bits word bits) (page_at pages p) ≡ true)
+    by_mark : (a b : Bool) → is_marked held.marks p ≡ a → is_named s held word bits p ≡ b → (is_marked held.marks p || is_named s held word bits p) ≡ true → (is_marked held.marks p ≡ true) ⊎ (is_named s held word bits p ≡ true)
     by_mark true b was named e = inl was
     by_mark false true was named e = inr named
-    by_mark false false was named e = absurd (true≢false (sym e ∙ ap (λ (x : Bool). x || there_and (is_in_bits word bits) (page_at pages p)) was ∙ named))
+    by_mark false false was named e = absurd (true≢false (sym e ∙ ap (λ (x : Bool). x || is_named s held word bits p) was ∙ named))
+
+-- what is marked so is in the bits
+pub named-in : (placement : Placement) (word bits hits : ℕ) (slot : Option Page) → is_marking placement (is_in_bits word bits) hits slot ≡ true → there_and (is_in_bits word bits) slot ≡ true
+named-in placement word bits hits None named = named
+named-in placement word bits hits (Some page) named = (and_parts (is_in_bits word bits page) (is_last_hit placement (kind_at page.content) hits) named).0
 
 takes-marked : (old new : State) (order order' : Order) (goal : Goal) (target : ℕ) → TakesNext old order goal target new order' → (p : ℕ) → is_marked order'.held.marks p ≡ true → is_marked order.held.marks p ≡ true
 takes-marked old new order order' goal target h p m = by_mark (is_marked order.held.marks p) refl
@@ -278,20 +287,29 @@ takes-marked old new order order' goal target h p m = by_mark (is_marked order.h
     by_mark true e = refl
     by_mark false e = absurd (true≢false (sym looked ∙ picked-unmarked (is_swap_free old) order.held h.g (Some h.p) h.looked h.picked p e))
 
-pub only_merges_mark : OnlyMergesMark
-only_merges_mark old new caller what answer called p m =
+-- of all calls a merge alone marks a page, and this hit is its last
+pub only_last_hits : (old new : Past) (caller : Caller) (what : Event) (answer : Reply) → Called old caller what answer new → (p : ℕ) → is_marked new.order.held.marks p ≡ true
+    → (is_marked old.order.held.marks p ≡ true) ⊎ ((word bits : ℕ) × (what ≡ event.MergeMarks word bits) × (is_named old.state old.order.held word bits p ≡ true))
+only_last_hits old new caller what answer called p m =
     called_or old new caller what answer (λ same. inl (ap (λ (x : Past). is_marked x.order.held.marks p) (sym same) ∙ m))
     (λ h.
     orders_or old.state new.state old.order new.order what answer (λ goal target took same k. inl (takes-marked old.state new.state old.order new.order goal target k p m))
     (λ path e k. inl (ap (λ (x : Order). is_marked x.held.marks p) (sym k) ∙ m))
     (λ g e k. inl (ap (λ (marks : List Bool). is_marked marks p) (sym (removes-marks (node_at old.state.tree g.0).parent g.0 old.order new.order k)) ∙ m))
     (λ word bits e k.
-    elim (merged-before old.state.pages word bits old.order.held new.order.held k.0 p m) [
+    elim (merged-before old.state word bits old.order.held new.order.held k.0 p m) [
       | inl was ↦ inl was
       | inr named ↦ inr (word, bits, e, named)
     ])
     (λ same k. inl (goes-marked (generation_for old.state.opening.placement what) old.state.pages new.state.pages old.order.held new.order.held k.0 p m))
     h.order) called
+
+pub only_merges_mark : OnlyMergesMark
+only_merges_mark old new caller what answer called p m =
+    elim (only_last_hits old new caller what answer called p m) [
+      | inl was ↦ inl was
+      | inr merge ↦ inr (merge.0, merge.1, merge.2, named-in old.state.opening.placement merge.0 merge.1 (hits_at old.order.held.hits p) (page_at old.state.pages p) merge.3)
+    ]
 
 pub merges_change_marks_alone : MergesChangeMarksAlone
 merges_change_marks_alone old new caller word bits answer called =
@@ -304,7 +322,7 @@ merges_change_marks_alone old new caller word bits answer called =
       passes = h.passes;
       lists = h.order.0.groups;
       cursors = h.order.1;
-      kept = λ p e. h.order.0.marks p ∙ ap (λ (b : Bool). b || there_and (is_in_bits word bits) (page_at old.state.pages p)) e;
+      kept = λ p e. h.order.0.marks p ∙ ap (λ (b : Bool). b || is_named old.state old.order.held word bits p) e;
     }) called
 
 -- a merge needs no room but that which each legal past has
@@ -339,8 +357,24 @@ takes_next old new order order' (event.ReclaimOne g) (reply.Out ticket) target e
 takes_next old new order order' (event.ReclaimOne g) reply.Dropped target e h = subst (λ t. TakesNext old order Amount t new order') (some_inj e) h
 takes_next old new order order' what answer target e h = cc
 
-leaves_in_order : (old new : Past) (goal : Goal) (target : ℕ) → IsOrdered old → TakesUnprotected old.state target new.state → TakesNext old.state old.order goal target new.state new.order → LeavesInOrder old goal target new
-leaves_in_order old new goal target was taken next = record {
+-- once a group has given a page, the cursor names it
+names_giver : (parts : Bool) (tree : List Node) (gives : ℕ → Bool) (size : ℕ → ℕ) (target : ℕ) (cursor : Cursor) (g : ℕ) → (cursor_after parts tree gives size target cursor g).group ≡ Some g
+names_giver false tree gives size target cursor g = refl
+names_giver true tree gives size target cursor g = by_turn (list_any (λ a. a == g) (in_turn true tree target cursor))
+  where
+    by_turn : (goes_on : Bool) → (let c : Cursor = if goes_on then record { group = Some g; left = cursor.left - 1; unit = cursor.unit } else new_turn g (size g) (round_unit tree gives size target cursor g) in c.group) ≡ Some g
+    by_turn true = refl
+    by_turn false = refl
+
+-- a target that a page of a live group is taken for has a number
+target_below : (opening : Opening) (history : List Entry) (s : State) → Legal opening history s → (target p : ℕ) (page : Page) → page_at s.pages p ≡ Some page → under s.tree target page.group ≡ true → target < length s.tree
+target_below opening history s legal target p page there below =
+    let sound = (legal-sound opening history s legal).1 in
+    live-below s.tree target (live-above s.tree sound.falls sound.above (page.group + 1) target page.group (omega arith) (legal-fit opening history s legal p page there).live below)
+
+leaves_in_order : (opening : Opening) (old new : Past) (goal : Goal) (target : ℕ) → Legal opening old.history old.state → IsOrdered old → TakesUnprotected old.state target new.state
+    → TakesNext old.state old.order goal target new.state new.order → LeavesInOrder old goal target new
+leaves_in_order opening old new goal target legal was taken next = record {
   taken = taken;
   turn = next.next ∙ ap (λ (g : ℕ). Some g) group;
   looked = next.looked;
@@ -348,9 +382,16 @@ leaves_in_order old new goal target was taken next = record {
       subst (λ (g : ℕ). PicksOf (is_swap_free old.state) old.order.held g (Some taken.p) next.looked) group
       (subst (λ (q : ℕ). PicksOf (is_swap_free old.state) old.order.held next.g (Some q) next.looked) same next.picked);
   leaves = next.leaves;
-  cursor = next.moves ∙ ap (λ (g : ℕ). slice_set old.order.cursors target (Some g)) group;
+  cursor = cursor;
+  named =
+      ap (λ (cs : List Cursor). (cursor_at cs target).group) cursor
+      ∙ ap (λ (c : Cursor). c.group) (get_or-set_same old.order.cursors target to no_cursor (subst (λ n. target < n) (sym was.cursors) (target_below opening old.history old.state legal target taken.p taken.page taken.there taken.below)))
+      ∙ names_giver (takes_parts old.state.opening.placement goal) old.state.tree (gives old.state target) (usage old.state) target (cursor_at old.order.cursors target) taken.page.group;
 }
   where
+    to : Cursor
+    to = cursor_served old.state old.order goal target taken.page.group
+
     same : next.p ≡ taken.p
     same =
         elim (eq_cases next.p taken.p) [
@@ -366,6 +407,9 @@ leaves_in_order old new goal target was taken next = record {
         let of_kinds : Bool = of_kind found.0 (is_anon taken.page.content) (not (is_anon taken.page.content)) in
         let both = and_parts (is_held taken.page) ((taken.page.group == next.g) && of_kinds) here in
         sym (eqb-true taken.page.group next.g (and_parts (taken.page.group == next.g) of_kinds both.1).0)
+
+    cursor : new.order.cursors ≡ slice_set old.order.cursors target to
+    cursor = next.moves ∙ ap (λ (g : ℕ). slice_set old.order.cursors target (cursor_served old.state old.order goal target g)) group
 
 -- a page that is held no more is the one that was taken
 the_taken : (old new : Past) (goal : Goal) (target : ℕ) (h : LeavesInOrder old goal target new) (p : ℕ) (page : Page) → page_at old.state.pages p ≡ Some page → is_held page ≡ true
@@ -396,21 +440,22 @@ idle_stays opening old new goal target legal leaves heeds h old_file p page ther
     subst (λ (x : Page). gives_old old.state old.order.held target x.group ≡ true) (sym its.1)
     (served-has_old opening old.history old.state legal old.order goal target h leaves.taken.page.group heeds old_file leaves.turn)
 
-module _ (old new : Past) (caller : Caller) (what : Event) (answer : Reply) (target : ℕ) (took : took_for what answer ≡ Some target) (called : Called old caller what answer new) (was : IsOrdered old) where
+module _ (opening : Opening) (old new : Past) (caller : Caller) (what : Event) (answer : Reply) (target : ℕ) (took : took_for what answer ≡ Some target) (called : Called old caller what answer new)
+    (legal : Legal opening old.history old.state) (was : IsOrdered old) where
   pub called_leaves : LeavesInOrder old (goal_in what) target new
   called_leaves =
       let served = called_answers old new caller what answer (took_served what answer target took) called in
-      leaves_in_order old new (goal_in what) target was (reclaims_spare_the_protected old.state new.state what answer target took served.steps)
+      leaves_in_order opening old new (goal_in what) target legal was (reclaims_spare_the_protected old.state new.state what answer target took served.steps)
       (takes_next old.state new.state old.order new.order what answer target took served.order)
 
   pub called_stays : (p : ℕ) (page : Page) → page_at old.state.pages p ≡ Some page → is_held page ≡ true → there_and is_held (page_at new.state.pages p) ≡ false
       → is_marked old.order.held.marks p ≡ true → AllByRecursion (λ l. has_mark old.order.held.marks l ≡ true) (old_pages (is_swap_free old.state) (gens_at old.order.held.groups page.group))
   called_stays = marked_stays old new (goal_in what) target was called_leaves
 
-  pub called_idle : (opening : Opening) → Legal opening old.history old.state → heeds_age opening.placement (goal_in what) target ≡ true → (h : ℕ) → gives_old old.state old.order.held target h ≡ true
+  pub called_idle : heeds_age opening.placement (goal_in what) target ≡ true → (h : ℕ) → gives_old old.state old.order.held target h ≡ true
       → (p : ℕ) (page : Page) → page_at old.state.pages p ≡ Some page → is_held page ≡ true → there_and is_held (page_at new.state.pages p) ≡ false
       → gives_old old.state old.order.held target page.group ≡ true
-  called_idle opening legal = idle_stays opening old new (goal_in what) target legal called_leaves
+  called_idle = idle_stays opening old new (goal_in what) target legal called_leaves
 
 -- ---- two calls
 

@@ -4,6 +4,8 @@ use Rattle.std.specs.Prelude.{filter, map, nat_lt, sum_by}
 use Rattle.std.proofs.lemmas.Bool.{cases_Bool}
 use Rattle.std.proofs.lemmas.Bool.Decides.{nat_tests}
 use Rattle.std.proofs.lemmas.List.Sums.{sum_by-cons, sum_by-append}
+use Rattle.machine.specs.declared.config.Placement.TheVariants.{Own, Linux}
+use Rattle.machine.specs.declared.config.Placement.{Placement}
 use Rattle.machine.specs.declared.entry.Entry.{Entry}
 use Rattle.machine.specs.declared.event.Cause.{Cause}
 use Rattle.machine.specs.declared.event.Event.TheVariants as event
@@ -19,18 +21,18 @@ use Rattle.machine.specs.Tree.{Node, node_at, IsTree, under, under_at}
 use Rattle.machine.specs.Pages.{is_number}
 use Rattle.machine.specs.Tasks.{Tasks, PageTables, task_at, task_of, is_live_task, lives, group_of, group_of_task, size_of}
 use Rattle.machine.specs.Counts.{Counted, count_of, is_key, local, how_often}
-use Rattle.machine.specs.Victim.{is_live_under, is_candidate, is_worse, IsVictim, is_flagged, kill_group_of, counts_of_killed, counts_of_group_kill}
+use Rattle.machine.specs.Victim.{is_live_under, is_candidate, is_worse, IsVictim, is_flagged, kill_group_of, counts_of_killed, counts_of_victim, counts_of_group_kill}
 use Rattle.machine.specs.State.{Opening, State}
 use Rattle.machine.specs.Reclaim.{has_takeable, has_transfer, is_idle, stands, target_of}
 use Rattle.machine.specs.Step.{EndsTasks, KillStep, Step}
 use Rattle.machine.specs.Legal.{Legal}
 use Rattle.machine.proofs.Values.{some_inj, unlike}
 use Rattle.machine.proofs.TreeLemmas.{eq_cases, under_at-None, under_at-step}
-use Rattle.machine.proofs.KillGroupLemmas.{candidate-parts, IsHighest, above_parent, kill_group-highest}
+use Rattle.oom.proofs.KillGroupLemmas.{candidate-parts, IsHighest, above_parent, kill_group-highest}
 use Rattle.legal.proofs.SoundLemmas.{legal-sound}
 use Rattle.legal.proofs.CountedLemmas.{step-counted}
 use Rattle.legal.proofs.NamedLemmas.{step-counts}
-use Rattle.laws.specs.Laws.{victim_in, KillsComeLast, VictimsHaveTheMostPages, IsWholeKill, GroupKillsAreWhole, SingleKillsAreUnflagged, CountsKill, KillsAreCounted}
+use Rattle.laws.specs.Laws.{victim_in, KillsComeLast, VictimsHaveTheMostPages, IsWholeKill, GroupKillsAreWhole, SingleKillsAreUnflagged, CountsKill, counted_again, KillsAreCounted}
 use Rattle.laws.proofs.LawLemmas.{by_test, is_taking, never_taken, idle_of}
 
 -- ---- the step
@@ -225,15 +227,27 @@ killed-other tree tasks h g k other = by_slots (filter (there_and (is_live_under
         let none = miss (group_of slot) g (is_key key.OomKill k) other in
         omega (arith, rest, one, none)
 
--- what a kill of a group counts under a key at a group: at the limit, for its tasks, at itself
-group-often : (tree : List Node) (tasks : Tasks) (limit h g : ℕ) (k : Key)
-    → how_often (counts_of_group_kill tree tasks limit h) g k
-    ≡ cond ((limit == g) && is_key key.Oom k) 1 0 + (how_often (counts_of_killed tree tasks h) g k + cond ((h == g) && is_key key.OomGroupKill k) 1 0)
-group-often tree tasks limit h g k =
-    let first = how_often-one (count_of limit key.Oom) (counts_of_killed tree tasks h ++ count_of h key.OomGroupKill ∷ []) g k in
+-- the victim is counted once more by Linux's placement, and under no other key
+victim-often : (placement : Placement) (tasks : Tasks) (victim g : ℕ) → how_often (counts_of_victim placement tasks victim) g key.OomKill ≡ counted_again placement tasks victim g
+victim-often Own tasks victim g = refl
+victim-often Linux tasks victim g =
+    let one = how_often-one (count_of (group_of_task tasks victim) key.OomKill) [] g key.OomKill in let here = hit (group_of_task tasks victim) g true refl in omega (arith, one, here)
+
+victim-other : (placement : Placement) (tasks : Tasks) (victim g : ℕ) (k : Key) → is_key key.OomKill k ≡ false → how_often (counts_of_victim placement tasks victim) g k ≡ 0
+victim-other Own tasks victim g k other = refl
+victim-other Linux tasks victim g k other =
+    let one = how_often-one (count_of (group_of_task tasks victim) key.OomKill) [] g k in let none = miss (group_of_task tasks victim) g (is_key key.OomKill k) other in omega (arith, one, none)
+
+-- what a kill of a group counts under a key at a group: at the limit, for the victim, for its tasks, at itself
+group-often : (placement : Placement) (tree : List Node) (tasks : Tasks) (limit victim h g : ℕ) (k : Key)
+    → how_often (counts_of_group_kill placement tree tasks limit victim h) g k
+    ≡ cond ((limit == g) && is_key key.Oom k) 1 0 + (how_often (counts_of_victim placement tasks victim) g k + (how_often (counts_of_killed tree tasks h) g k + cond ((h == g) && is_key key.OomGroupKill k) 1 0))
+group-often placement tree tasks limit victim h g k =
+    let first = how_often-one (count_of limit key.Oom) (counts_of_victim placement tasks victim ++ (counts_of_killed tree tasks h ++ count_of h key.OomGroupKill ∷ [])) g k in
+    let again = how_often-both (counts_of_victim placement tasks victim) (counts_of_killed tree tasks h ++ count_of h key.OomGroupKill ∷ []) g k in
     let both = how_often-both (counts_of_killed tree tasks h) (count_of h key.OomGroupKill ∷ []) g k in
     let last = how_often-one (count_of h key.OomGroupKill) [] g k in
-    omega (arith, first, both, last)
+    omega (arith, first, again, both, last)
 
 -- and a kill of a task: at the limit, and at its group
 single-often : (limit home g : ℕ) (k : Key) → how_often (count_of limit key.Oom ∷ count_of home key.OomKill ∷ []) g k ≡ cond ((limit == g) && is_key key.Oom k) 1 0 + cond ((home == g) && is_key key.OomKill k) 1 0
@@ -267,23 +281,25 @@ module _ (opening : Opening) (history : List Entry) (before after : State) (why 
           ∙ ap (λ (n : ℕ). local before.counted g k + n) (single-often limit home g k)
 
   all_counts : (victim h tasks : ℕ) → Step before (event.Relieve why) (reply.KilledAll (record { 0 = victim }) (record { 0 = h }) tasks) after
-      → CountsKill before limit (λ g. count_there (λ task. is_live_under before.tree h task && (task.group.0 == g)) before.tasks) (Some h) after
+      → CountsKill before limit (λ g. count_there (λ task. is_live_under before.tree h task && (task.group.0 == g)) before.tasks + counted_again before.opening.placement before.tasks victim g) (Some h) after
   all_counts victim h tasks step =
       record {
-        oom = λ g. let is = told g key.Oom in let a = hit limit g true refl in let b = killed-other before.tree before.tasks h g key.Oom refl in let c = miss h g false refl in omega (arith, is, a, b, c);
-        oom_kill = λ g. let is = told g key.OomKill in let a = miss limit g false refl in let b = killed-often before.tree before.tasks h g in let c = miss h g false refl in omega (arith, is, a, b, c);
-        oom_group_kill = λ g. let is = told g key.OomGroupKill in let a = miss limit g false refl in let b = killed-other before.tree before.tasks h g key.OomGroupKill refl in let c = hit h g true refl in omega (arith, is, a, b, c);
-        low = λ g. let is = told g key.Low in let a = miss limit g false refl in let b = killed-other before.tree before.tasks h g key.Low refl in let c = miss h g false refl in omega (arith, is, a, b, c);
-        high = λ g. let is = told g key.High in let a = miss limit g false refl in let b = killed-other before.tree before.tasks h g key.High refl in let c = miss h g false refl in omega (arith, is, a, b, c);
-        max = λ g. let is = told g key.Max in let a = miss limit g false refl in let b = killed-other before.tree before.tasks h g key.Max refl in let c = miss h g false refl in omega (arith, is, a, b, c);
+        oom = λ g. let is = told g key.Oom in let a = hit limit g true refl in let v = victim-other before.opening.placement before.tasks victim g key.Oom refl in let b = killed-other before.tree before.tasks h g key.Oom refl in let c = miss h g false refl in omega (arith, is, a, v, b, c);
+        oom_kill = λ g. let is = told g key.OomKill in let a = miss limit g false refl in let v = victim-often before.opening.placement before.tasks victim g in let b = killed-often before.tree before.tasks h g in let c = miss h g false refl in omega (arith, is, a, v, b, c);
+        oom_group_kill = λ g. let is = told g key.OomGroupKill in let a = miss limit g false refl in let v = victim-other before.opening.placement before.tasks victim g key.OomGroupKill refl in let b = killed-other before.tree before.tasks h g key.OomGroupKill refl in let c = hit h g true refl in omega (arith, is, a, v, b, c);
+        low = λ g. let is = told g key.Low in let a = miss limit g false refl in let v = victim-other before.opening.placement before.tasks victim g key.Low refl in let b = killed-other before.tree before.tasks h g key.Low refl in let c = miss h g false refl in omega (arith, is, a, v, b, c);
+        high = λ g. let is = told g key.High in let a = miss limit g false refl in let v = victim-other before.opening.placement before.tasks victim g key.High refl in let b = killed-other before.tree before.tasks h g key.High refl in let c = miss h g false refl in omega (arith, is, a, v, b, c);
+        max = λ g. let is = told g key.Max in let a = miss limit g false refl in let v = victim-other before.opening.placement before.tasks victim g key.Max refl in let b = killed-other before.tree before.tasks h g key.Max refl in let c = miss h g false refl in omega (arith, is, a, v, b, c);
       }
     where
       told : (g : ℕ) (k : Key) → local after.counted g k
-          ≡ local before.counted g k + (cond ((limit == g) && is_key key.Oom k) 1 0 + (how_often (counts_of_killed before.tree before.tasks h) g k + cond ((h == g) && is_key key.OomGroupKill k) 1 0))
+          ≡ local before.counted g k
+          + (cond ((limit == g) && is_key key.Oom k) 1 0
+          + (how_often (counts_of_victim before.opening.placement before.tasks victim) g k + (how_often (counts_of_killed before.tree before.tasks h) g k + cond ((h == g) && is_key key.OomGroupKill k) 1 0)))
       told g k =
           step-counts opening history before after (event.Relieve why) (reply.KilledAll (record { 0 = victim }) (record { 0 = h }) tasks) legal step g k
           ∙ ap (λ (events : List Counted). local before.counted g k + how_often events g k) (step-counted before after (event.Relieve why) (reply.KilledAll (record { 0 = victim }) (record { 0 = h }) tasks) step).names
-          ∙ ap (λ (n : ℕ). local before.counted g k + n) (group-often before.tree before.tasks limit h g k)
+          ∙ ap (λ (n : ℕ). local before.counted g k + n) (group-often before.opening.placement before.tree before.tasks limit victim h g k)
 
 pub kills_are_counted : KillsAreCounted
 kills_are_counted opening history before after why legal = (one_counts opening history before after why legal, all_counts opening history before after why legal)

@@ -18,7 +18,7 @@ use Rattle.turns.specs.declared.turn.Want.{Want}
 use Rattle.turns.specs.declared.turn.Want.TheVariants as want
 use Rattle.turns.specs.declared.turn.Transition.{Transition}
 use Rattle.block_store.specs.Device.{Disk}
-use Rattle.book.specs.Events.{event_of, reply_of}
+use Rattle.book_events.specs.Events.{event_of, reply_of}
 use Rattle.driver.specs.declared.seat.Activity.{Activity}
 use Rattle.driver.specs.declared.seat.Activity.TheVariants.{Rests, Begun, Does}
 use Rattle.machine.specs.State.{Opening, opening_of}
@@ -83,7 +83,7 @@ module _ (opening : Opening) where
 
   legal-turn : (old new : World) (who : Actor) (what : Activity) (outcome : Outcome) → ActivityTurn old who what outcome new → IsLegal old.past → IsLegal new.past
   legal-turn old new who Rests outcome turn legal = legal-world old new turn.1 legal
-  legal-turn old new who (Begun what) outcome turn legal = legal-judged old new who (judged old.past.state.tree who what) outcome turn legal
+  legal-turn old new who (Begun what) outcome turn legal = legal-judged old new who (judged old.past.state.opening old.past.state.tree who what) outcome turn legal
   legal-turn old new who (Does stage) outcome turn legal = legal-stage old new who stage outcome turn legal
 
   legal-goings : (old new : World) (who : Actor) (outcomes : List Outcome) → Goings old who outcomes new → IsLegal old.past → IsLegal new.past

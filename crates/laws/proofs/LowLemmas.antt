@@ -3,8 +3,10 @@ use Rattle.std.proofs.Common.{◌≡◌, ◌≢◌, inl, inr, ℕ, ◌==◌, ◌
 use Rattle.std.specs.Prelude.{◌⊎◌, sum_by, filter, map}
 use Rattle.std.proofs.lemmas.List.Sums.{sum_by-cons}
 use Rattle.std.proofs.lemmas.Bool.{cases_Bool, and_parts, and_from, ne_eqb}
+use Rattle.machine.specs.declared.config.Placement.TheVariants.{Own, Linux}
+use Rattle.machine.specs.declared.config.Placement.{Placement}
 use Rattle.machine.specs.declared.record.Task.{Task}
-use Rattle.machine.specs.Victim.{is_live_under, counts_of_group_kill}
+use Rattle.machine.specs.Victim.{is_live_under, counts_of_victim, counts_of_group_kill}
 use Rattle.machine.specs.Tasks.{Tasks, group_of}
 use Rattle.machine.specs.declared.amount.Amount.{Amount}
 use Rattle.machine.specs.declared.entry.Entry.{Entry}
@@ -29,7 +31,7 @@ use Rattle.machine.specs.Events.{took_for, counts_named, low_named, NamesFor, Na
 use Rattle.machine.proofs.Values.{some_inj}
 use Rattle.machine.proofs.TreeLemmas.{eq_cases}
 use Rattle.machine.proofs.TestLemmas.{none_has}
-use Rattle.machine.proofs.TakeableLemmas.{next-takeable, next-open}
+use Rattle.page_lists.proofs.TakeableLemmas.{next-takeable, next-open}
 use Rattle.counts.proofs.CountLemmas.{local-push}
 use Rattle.protection.proofs.EffectiveLemmas.{same_below}
 use Rattle.legal.proofs.CountedLemmas.{Counts, step-counted, local-other}
@@ -133,9 +135,13 @@ no_low-events counted [] g none = refl
 no_low-events counted (c ∷ events) g none = no_low-events (with_event counted c.group c.key) events g none.1 ∙ local-other counted c.group c.key g key.Low none.0
 
 -- so it is of a group's kill
-all_but_low : (tree : List Node) (tasks : Tasks) (limit h : ℕ) → AreNotLow (counts_of_group_kill tree tasks limit h)
-all_but_low tree tasks limit h = (refl, killed (filter (there_and (is_live_under tree h)) tasks))
+all_but_low : (placement : Placement) (tree : List Node) (tasks : Tasks) (limit victim h : ℕ) → AreNotLow (counts_of_group_kill placement tree tasks limit victim h)
+all_but_low placement tree tasks limit victim h = (refl, again placement _ (killed (filter (there_and (is_live_under tree h)) tasks)))
   where
+    again : (placement : Placement) (events : List Counted) → AreNotLow events → AreNotLow (counts_of_victim placement tasks victim ++ events)
+    again Own events none = none
+    again Linux events none = (refl, none)
+
     killed : (slots : List (Option Task)) → AreNotLow (map (λ (s : Option Task). count_of (group_of s) key.OomKill) slots ++ count_of h key.OomGroupKill ∷ [])
     killed [] = (refl, tt)
     killed (slot ∷ slots) = (refl, killed slots)
@@ -144,7 +150,7 @@ all_but_low tree tasks limit h = (refl, killed (filter (there_and (is_live_under
 no_low : (s : State) (what : Event) (answer : Reply) (g : ℕ) → local (with_events (for_groups s.counted what) (counts_named s what answer)) g key.Low ≡ local s.counted g key.Low
 no_low s (event.Access t place op) (reply.Over limit) g = local-other s.counted limit.0 key.Max g key.Low refl
 no_low s (event.Relieve why) (reply.KilledTask t) g = local-other (with_event s.counted (target_of why) key.Oom) _ key.OomKill g key.Low refl ∙ local-other s.counted (target_of why) key.Oom g key.Low refl
-no_low s (event.Relieve why) (reply.KilledAll victim h tasks) g = no_low-events s.counted (counts_of_group_kill s.tree s.tasks (target_of why) h.0) g (all_but_low s.tree s.tasks (target_of why) h.0)
+no_low s (event.Relieve why) (reply.KilledAll victim h tasks) g = no_low-events s.counted (counts_of_group_kill s.opening.placement s.tree s.tasks (target_of why) victim.0 h.0) g (all_but_low s.opening.placement s.tree s.tasks (target_of why) victim.0 h.0)
 no_low s (event.Relieve why) reply.NoVictim g = local-other s.counted (target_of why) key.Oom g key.Low refl
 no_low s (event.Mkdir path) answer g = local-push s.counted g key.Low
 no_low s what answer g = refl

@@ -10,7 +10,7 @@ use Rattle.machine.specs.declared.command.Reply.{Reply as Told_by}
 use Rattle.machine.specs.State.{Opening, opening_of}
 use Rattle.machine.specs.Call.{Past, Caller}
 use Rattle.block_store.specs.Device.{Disk}
-use Rattle.book.specs.Events.{event_of, reply_of}
+use Rattle.book_events.specs.Events.{event_of, reply_of}
 use Rattle.driver.specs.declared.seat.Activity.{Activity}
 use Rattle.turns.specs.declared.turn.Stage.{Stage}
 use Rattle.driver.specs.declared.seat.Outcome.{Outcome}
@@ -76,12 +76,12 @@ groups_have_cursors config before lines answers end runs = (runs_ordered config 
 
 pub pages_leave_in_order : PagesLeaveInOrder
 pages_leave_in_order config before lines answers end runs after caller what answer target took called =
-    called_leaves end.past after caller what answer target took called (runs_ordered config before lines answers end runs).order
+    let h = runs_ordered config before lines answers end runs in called_leaves (opening_of config) end.past after caller what answer target took called h.tickets.legal h.order
 
 pub idle_is_left_alone : IdleIsLeftAlone
 idle_is_left_alone config before lines answers end runs after caller what answer target took called =
-    let h = runs_ordered config before lines answers end runs in called_idle end.past after caller what answer target took called h.order (opening_of config) h.tickets.legal
+    let h = runs_ordered config before lines answers end runs in called_idle (opening_of config) end.past after caller what answer target took called h.tickets.legal h.order
 
 pub marked_pages_stay : MarkedPagesStay
 marked_pages_stay config before lines answers end runs after caller what answer target took called =
-    called_stays end.past after caller what answer target took called (runs_ordered config before lines answers end runs).order
+    let h = runs_ordered config before lines answers end runs in called_stays (opening_of config) end.past after caller what answer target took called h.tickets.legal h.order

@@ -24,7 +24,7 @@ use Rattle.machine.specs.Step.{Only, ChargeStep, HitStep, MeetStep, LifeStep, Ta
 use Rattle.machine.proofs.Values.{some_inj, never_some, unlike}
 use Rattle.machine.proofs.TreeLemmas.{eq_cases}
 use Rattle.machine.specs.Events.{took_for}
-use Rattle.machine.proofs.TakeableLemmas.{next-takeable, takeable-held, takeable-below, takeable-unprotected}
+use Rattle.page_lists.proofs.TakeableLemmas.{next-takeable, takeable-held, takeable-below, takeable-unprotected}
 use Rattle.laws.specs.Laws.{victim_in, TakesUnprotected, ReclaimsSpareTheProtected, ReclaimsGiveUpLast, ReclaimsKillNobody, OnlyCleanPagesAreDropped}
 use Rattle.laws.proofs.LawLemmas.{by_test, is_taking, never_taken, idle_of}
 

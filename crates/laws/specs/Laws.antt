@@ -1,9 +1,10 @@
 -- The headline in the words of its users: what holds of every step and of every run.
-use Rattle.std.specs.Prelude.{◌≡◌, ◌≢◌, ◌⊎◌, ℕ, ◌+◌, ◌<◌, ◌≤◌, ◌==◌, ◌&&◌, if◌then◌else◌, Bool, true, false, List, ◌∷◌, ◌++◌, length, sum_by, Ok, Err, Option, Some, None, slice_get, slice_set}
+use Rattle.std.specs.Prelude.{◌≡◌, ◌≢◌, ◌⊎◌, ℕ, ◌+◌, ◌<◌, ◌≤◌, ◌==◌, ◌&&◌, nat_lt, if◌then◌else◌, MatchBool, Bool, true, false, List, ◌∷◌, ◌++◌, length, sum_by, Ok, Err, Option, Some, None, slice_get, slice_set}
 use Rattle.std.specs.List.{AllByRecursion}
 use Rattle.machine.specs.declared.amount.Amount.TheVariants.{Pages}
 use Rattle.machine.specs.declared.config.Config.{Config}
 use Rattle.machine.specs.declared.config.Placement.{Placement}
+use Rattle.machine.specs.declared.config.Placement.TheVariants.{Own, Linux}
 use Rattle.machine.specs.declared.entry.Entry.{Entry}
 use Rattle.machine.specs.declared.id.FrameId.{FrameId}
 use Rattle.machine.specs.declared.id.GroupId.{GroupId}
@@ -12,6 +13,7 @@ use Rattle.machine.specs.declared.event.Cause.{Cause}
 use Rattle.machine.specs.declared.event.Goal.{Goal}
 use Rattle.machine.specs.declared.event.Op.{Op}
 use Rattle.machine.specs.declared.event.Place.{Place}
+use Rattle.machine.specs.declared.event.Place.TheVariants as place
 use Rattle.machine.specs.declared.event.Setting.{Setting}
 use Rattle.machine.specs.declared.event.Setting.TheVariants as setting
 use Rattle.machine.specs.declared.event.Query.TheVariants as query
@@ -36,15 +38,15 @@ use Rattle.machine.specs.Slots.{there_and, count_there}
 use Rattle.machine.specs.Amounts.{exceeds}
 use Rattle.machine.specs.Counts.{no_limits, limits_at, guard_of, count_of_key, with_event, local, total, Counted, how_often}
 use Rattle.machine.specs.Tree.{Node, node_at, is_child, is_live, children, under}
-use Rattle.machine.specs.Pages.{OfFile, Residence, Away, Page, page_at, is_anon, is_held, frame_at, block_at, ticket_at, is_in_transfer, is_charged, is_number, in_transfer, used_frames, used_swap, IsFiled}
-use Rattle.machine.specs.Tasks.{task_at, task_of, lives, group_of_task, mapped_at, size_of}
+use Rattle.machine.specs.Pages.{OfFile, Residence, Away, Page, page_at, is_anon, is_held, frame_at, block_at, ticket_at, is_in_transfer, is_charged, is_number, in_transfer, used_frames, used_swap, file_page, IsFiled}
+use Rattle.machine.specs.Tasks.{Tasks, task_at, task_of, lives, group_of_task, mapped_at, size_of}
 use Rattle.machine.specs.State.{Opening, State, page_numbers, usage, effective_in, effective_min, effective_low, is_swap_free, opening_of, blocks_of}
 use Rattle.machine.specs.Reclaim.{is_takeable, is_idle, target_of, goal_in}
 use Rattle.machine.specs.Generations.{row_of, listed, gens_at, AreDistinct}
 use Rattle.machine.specs.Aging.{is_marked, has_mark}
 use Rattle.machine.specs.Eviction.{old_pages}
-use Rattle.machine.specs.Order.{heeds_age}
-use Rattle.machine.specs.Lists.{HeldLists, Youngest, gives_old, served, PicksOf, ListsHeld, AreGenerations, generation_for, GoesOn, shown_at, is_in_bits, MergesMarks, with_group, RemovesLists}
+use Rattle.machine.specs.Order.{cursor_at, heeds_age}
+use Rattle.machine.specs.Lists.{HeldLists, hits_at, kind_at, Youngest, gives_old, served, cursor_served, PicksOf, ListsHeld, AreGenerations, generation_for, GoesOn, shown_at, is_in_bits, is_last_hit, MergesMarks, with_group, RemovesLists}
 use Rattle.machine.specs.Victim.{flag_at, is_live_under, is_candidate, is_flagged}
 use Rattle.machine.specs.Refusals.{refusal}
 use Rattle.machine.specs.Step.{Step}
@@ -229,15 +231,21 @@ pub record CountsKill (before : State) (limit : ℕ) (killed_in : ℕ → ℕ) (
   pub high : (g : ℕ) → local after.counted g key.High ≡ local before.counted g key.High
   pub max : (g : ℕ) → local after.counted g key.Max ≡ local before.counted g key.Max
 
--- in whatever state a legal history ends, a kill of a task counts that one task, at its group, and a kill of a group each of its tasks, at the task's own. (Excludes a victim that is counted twice, tasks that are
--- counted as one, or at the group that is killed, and a group's kill that is counted at the limit, or for each task.)
+-- by Linux's placement the victim of a group's kill is counted twice at its group
+abbrev pub counted_again : Placement → Tasks → ℕ → ℕ → ℕ
+counted_again Own tasks victim g = 0
+counted_again Linux tasks victim g = if group_of_task tasks victim == g then 1 else 0
+
+-- in whatever state a legal history ends, a kill of a task counts that one task, at its group, and a kill of a group each of its tasks, at the task's own: once, but the victim twice by Linux's placement.
+-- (Excludes a victim that is counted twice by our own placement, tasks that are counted as one, or at the group that is killed, and a group's kill that is counted at the limit, or for each task.)
 abbrev pub KillsAreCounted : Type 0
 KillsAreCounted =
     (opening : Opening) (history : List Entry) (before after : State) (why : Cause) → Legal opening history before
     → ((t : ℕ) → Step before (event.Relieve why) (reply.KilledTask (record { 0 = t })) after
     → CountsKill before (target_of why) (λ g. if group_of_task before.tasks t == g then 1 else 0) None after)
     × ((victim h tasks : ℕ) → Step before (event.Relieve why) (reply.KilledAll (record { 0 = victim }) (record { 0 = h }) tasks) after
-    → CountsKill before (target_of why) (λ g. count_there (λ task. is_live_under before.tree h task && (task.group.0 == g)) before.tasks) (Some h) after)
+    → CountsKill before (target_of why)
+    (λ g. count_there (λ task. is_live_under before.tree h task && (task.group.0 == g)) before.tasks + counted_again before.opening.placement before.tasks victim g) (Some h) after)
 
 -- one page stood in its frame and is taken from there, and no other changes. Its group is at or under the target, and is the target itself, or used more than its effective min
 -- for a reclaim of the target
@@ -339,7 +347,7 @@ GroupsHaveCursors =
 abbrev pub ListsGoOn : Past → Event → Reply → Past → Type 0
 ListsGoOn before (event.Mkdir path) answer after = after.order.held ≡ with_group before.order.held
 ListsGoOn before (event.Rmdir g) answer after = RemovesLists (node_at before.state.tree g.0).parent g.0 before.order after.order
-ListsGoOn before (event.MergeMarks word bits) answer after = MergesMarks before.state.pages word bits before.order.held after.order.held
+ListsGoOn before (event.MergeMarks word bits) answer after = MergesMarks before.state.opening.placement before.state.pages word bits before.order.held after.order.held
 ListsGoOn before what answer after = GoesOn (generation_for before.state.opening.placement what) before.state.pages before.order.held after.state.pages after.order.held
 
 -- so it is in every call that changes anything and takes no page. (Excludes lists whose order is made up anew, a page that comes to be held before another of its generation,
@@ -375,16 +383,24 @@ begins_at (Err why) = None
 
 abbrev pub stage_at : World → Actor → Activity → Option Stage
 stage_at w who Rests = None
-stage_at w who (Begun what) = begins_at (judged w.past.state.tree who what)
+stage_at w who (Begun what) = begins_at (judged w.past.state.opening w.past.state.tree who what)
 stage_at w who (Does stage) = Some stage
 
--- a hit there leaves a mark: by our own placement each does, and as Linux places pages each but that of an access to a file that had its page read in
-abbrev pub leaves_mark : Placement → Option Stage → Bool
-leaves_mark placement (Some (stage.Try access)) = marks_by placement access
-leaves_mark placement at = true
+-- a hit there counts: by our own placement each does, and as Linux places pages each but that of an access to a file that had its page read in
+abbrev pub leaves_hit : Placement → Option Stage → Bool
+leaves_hit placement (Some (stage.Try access)) = marks_by placement access
+leaves_hit placement at = true
 
-abbrev pub marks_in : Config → World → Actor → Bool
-marks_in config w who = leaves_mark config.placement (stage_at w who (activity_of who w.seats))
+abbrev pub counts_in : Config → World → Actor → Bool
+counts_in config w who = leaves_hit config.placement (stage_at w who (activity_of who w.seats))
+
+-- and the next one marks the page that the place shows, after those that it has had: by our own placement each does, and as Linux places pages the fifth of a page of a file
+abbrev pub marks_next : Placement → Past → Option ℕ → Bool
+marks_next placement past None = false
+marks_next placement past (Some p) = there_and (λ page. is_last_hit placement (kind_at page.content) (hits_at past.order.held.hits p)) (page_at past.state.pages p)
+
+abbrev pub marks_in : Config → World → Actor → TaskId → Place → Bool
+marks_in config w who t place = counts_in config w who && marks_next config.placement w.past (shown_at w.past.state t.0 place)
 
 -- whatever a run led to, the turn of an access that is answered by a hit leaves the page that its place shows marked, where it leaves a mark. (Excludes a page that was used and is
 -- evicted as if it were not.)
@@ -392,7 +408,7 @@ abbrev pub HitsMark : Type 0
 HitsMark =
     (config : Config) (before : Disk) (steps : List Line) (answers : List Told_by) (end : World) → Runs (first_world config before) steps answers end
     → (who : Actor) (outcome : Outcome) (after : World) → Turn end who outcome after → (t : TaskId) (place : Place) → Hits end.past after.past t place
-    → marks_in config end who ≡ true → (p : ℕ) × (shown_at end.past.state t.0 place ≡ Some p) × (is_marked after.past.order.held.marks p ≡ true)
+    → marks_in config end who t place ≡ true → (p : ℕ) × (shown_at end.past.state t.0 place ≡ Some p) × (is_marked after.past.order.held.marks p ≡ true)
 
 -- and no turn marks a page otherwise. (Excludes a page that is marked as it is made, copied or read in, one that a search marks, another page of the hit's word, and, as Linux places
 -- pages, a page of a file that counts as used because it came.)
@@ -400,7 +416,18 @@ abbrev pub OnlyHitsMark : Type 0
 OnlyHitsMark =
     (config : Config) (before : Disk) (steps : List Line) (answers : List Told_by) (end : World) → Runs (first_world config before) steps answers end
     → (who : Actor) (outcome : Outcome) (after : World) → Turn end who outcome after → (p : ℕ) → is_marked after.past.order.held.marks p ≡ true
-    → (is_marked end.past.order.held.marks p ≡ true) ⊎ ((t : TaskId) × (place : Place) × Hits end.past after.past t place × (shown_at end.past.state t.0 place ≡ Some p) × (marks_in config end who ≡ true))
+    → (is_marked end.past.order.held.marks p ≡ true) ⊎ ((t : TaskId) × (place : Place) × Hits end.past after.past t place × (shown_at end.past.state t.0 place ≡ Some p) × (marks_in config end who t place ≡ true))
+
+-- as Linux places pages, a hit of a page of a file that has no mark counts one more, and the fifth marks it and ends the count. With its read-in the page had its first. (Excludes a file
+-- that four reads keep, and one that five don't.)
+abbrev pub FiveReadsMark : Type 0
+FiveReadsMark =
+    (config : Config) (before : Disk) (steps : List Line) (answers : List Told_by) (end : World) → Runs (first_world config before) steps answers end → config.placement ≡ Linux
+    → (who : Actor) (outcome : Outcome) (after : World) → Turn end who outcome after → (t : TaskId) (file q offset : ℕ) → Hits end.past after.past t (place.File file q offset) → counts_in config end who ≡ true
+    → (p : ℕ) × (file_page end.past.state.pages file q ≡ Some p)
+    × (is_marked end.past.order.held.marks p ≡ false
+    → MatchBool (nat_lt (hits_at end.past.order.held.hits p + 1) 5) ((is_marked after.past.order.held.marks p ≡ false) × (hits_at after.past.order.held.hits p ≡ hits_at end.past.order.held.hits p + 1))
+    ((is_marked after.past.order.held.marks p ≡ true) × (hits_at after.past.order.held.hits p ≡ 0)))
 
 -- of the calls of a book only a merge marks pages: those held in the frames of its bits. (Excludes an access that marks what it used, and a mark for the page that had a frame before.)
 abbrev pub OnlyMergesMark : Type 0
@@ -426,17 +453,19 @@ abbrev pub MergesAreServed : Type 0
 MergesAreServed =
     (config : Config) (before : Disk) (steps : List Line) (answers : List Told_by) (end : World) → Runs (first_world config before) steps answers end
     → (after : Past) (caller : Caller) (word bits : ℕ) (answer : Reply) → Called end.past caller (event.MergeMarks word bits) answer after
-    → (answer ≡ reply.Ok) × MergesMarks end.past.state.pages word bits end.past.order.held after.order.held
+    → (answer ≡ reply.Ok) × MergesMarks end.past.state.opening.placement end.past.state.pages word bits end.past.order.held after.order.held
 
 -- a page was taken for the target, and it was its group's turn to give one, which by Linux's placement is first that of the groups with an old page of a file, for one page and for the
--- root; and the page was the one of the group's that is evicted next. The lists go on, without it, from what the search for it left; and the target's cursor then names the group
+-- root; and the page was the one of the group's that is evicted next. The lists go on, without it, from what the search for it left; and the target's cursor then names the group, and says how
+-- many pages more it gives in its turn. No other cursor moves
 pub record LeavesInOrder (before : Past) (goal : Goal) (target : ℕ) (after : Past) : Type 0 where
   pub taken : TakesUnprotected before.state target after.state
   pub turn : served before.state before.order goal target ≡ Some taken.page.group
   pub looked : HeldLists
   pub picked : PicksOf (is_swap_free before.state) before.order.held taken.page.group (Some taken.p) looked
   pub leaves : GoesOn Youngest before.state.pages looked after.state.pages after.order.held
-  pub cursor : after.order.cursors ≡ slice_set before.order.cursors target (Some taken.page.group)
+  pub cursor : after.order.cursors ≡ slice_set before.order.cursors target (cursor_served before.state before.order goal target taken.page.group)
+  pub named : (cursor_at after.order.cursors target).group ≡ Some taken.page.group
 
 -- so it is with each page that a call takes, whatever a run led to before. (Excludes a page of a younger generation that leaves while an older one of its group has a page that may
 -- be taken and is not marked, a search that ages other groups' lists, and a group that gives pages out of its turn.)

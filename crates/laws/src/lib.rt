@@ -2,7 +2,7 @@
 //! a function that does nothing.
 #![tactic(auto)]
 
-ghost use Rattle.laws.specs.Laws.{RunsAreLegal, RunsAreHonest, NoStrangers, ErrorsAreFailures, EachFailureIsAnswered, TransfersAreInHand, NothingIsLeft, CurrentCountsPages, EventsAreThoseCounted, CountsAreOfTheHistory, ChargesStayWithinMax, OnlyAccessesCharge, KillsComeLast, VictimsHaveTheMostPages, GroupKillsAreWhole, SingleKillsAreUnflagged, KillsAreCounted, ReadsGiveLastWrites, HonestDevicesPassTheAudit, AuditedReadsGaveLastWrites, PagesShareNoFrame, PagesShareNoBlock, BlocksAreThere, PagesShareNoTicket, FilePagesStayAtHome, FilePagesAreOne, OnlyCleanPagesAreDropped, StatAddsUpToCurrent, MappingsShowPages, MemoryWithoutAMappingIsGone, SharedBytesAgree, ForksShare, MovesTakeNoCharge, RemovalsKeepAncestorsCounts, RemovedGroupsHaveNoPages, RootIsNeverFlagged, OnlySetsChangeSettings, TraceHasRoom, TransfersAreBegunLessEnded, TransfersStayCharged, RepliesAreSettled, OrdersAreSettled, WriteOutsStayCharged, ReclaimsSpareTheProtected, SharesStayWithin, LowsComeLast, LowsAreCounted, LowsKillNobody, ReclaimsGiveUpLast, ReclaimsKillNobody, HeldPagesAreListed, GenerationsHold, GroupsHaveCursors, HeldPagesGoOn, OnlyTakesAge, HitsMark, OnlyHitsMark, OnlyMergesMark, MergesChangeMarksAlone, MergesAreServed, PagesLeaveInOrder, IdleIsLeftAlone, MarkedPagesStay, GroupsAreThere};
+ghost use Rattle.laws.specs.Laws.{RunsAreLegal, RunsAreHonest, NoStrangers, ErrorsAreFailures, EachFailureIsAnswered, TransfersAreInHand, NothingIsLeft, CurrentCountsPages, EventsAreThoseCounted, CountsAreOfTheHistory, ChargesStayWithinMax, OnlyAccessesCharge, KillsComeLast, VictimsHaveTheMostPages, GroupKillsAreWhole, SingleKillsAreUnflagged, KillsAreCounted, ReadsGiveLastWrites, HonestDevicesPassTheAudit, AuditedReadsGaveLastWrites, PagesShareNoFrame, PagesShareNoBlock, BlocksAreThere, PagesShareNoTicket, FilePagesStayAtHome, FilePagesAreOne, OnlyCleanPagesAreDropped, StatAddsUpToCurrent, MappingsShowPages, MemoryWithoutAMappingIsGone, SharedBytesAgree, ForksShare, MovesTakeNoCharge, RemovalsKeepAncestorsCounts, RemovedGroupsHaveNoPages, RootIsNeverFlagged, OnlySetsChangeSettings, TraceHasRoom, TransfersAreBegunLessEnded, TransfersStayCharged, RepliesAreSettled, OrdersAreSettled, WriteOutsStayCharged, ReclaimsSpareTheProtected, SharesStayWithin, LowsComeLast, LowsAreCounted, LowsKillNobody, ReclaimsGiveUpLast, ReclaimsKillNobody, HeldPagesAreListed, GenerationsHold, GroupsHaveCursors, HeldPagesGoOn, OnlyTakesAge, HitsMark, OnlyHitsMark, FiveReadsMark, OnlyMergesMark, MergesChangeMarksAlone, MergesAreServed, PagesLeaveInOrder, IdleIsLeftAlone, MarkedPagesStay, GroupsAreThere};
 
 /// The history of every run is legal: it leads from the opening to the run's state, and each entry is one step of the
 /// plain machine. Therefore what holds of each step, and of each legal history, holds of every run.
@@ -116,7 +116,7 @@ pub fn single_kills_are_unflagged()
 {}
 
 /// In such a state a kill counts `oom` once at the limit group, and `oom_kill` once for each task that dies,
-/// at the task's group. It counts `oom_group_kill` once at the group that is killed as one, if one is. No
+/// at the task's group. By Linux's placement a group's kill counts the victim twice. A kill counts `oom_group_kill` once at the group that is killed as one, if one is. No
 /// other number changes.
 pub fn kills_are_counted()
     ensures { KillsAreCounted }
@@ -199,8 +199,8 @@ pub fn only_takes_age()
     ensures { OnlyTakesAge }
 {}
 
-/// After any run, a turn whose access is answered by a hit leaves that page marked. With `--as-linux` this does not
-/// hold of an access to a file for which the page was read in.
+/// After any run, a turn whose access is answered by a hit leaves that page marked. With `--as-linux` this holds of a
+/// page of a file from its fifth access on; the access for which the page was read in is the first.
 pub fn hits_mark()
     ensures { HitsMark }
 {}
@@ -209,6 +209,13 @@ pub fn hits_mark()
 /// [`held_pages_go_on`] says that no page begins with an old mark of its number.
 pub fn only_hits_mark()
     ensures { OnlyHitsMark }
+{}
+
+/// After any run with `--as-linux`, an access that finds a page of a file without a mark counts one more. The fifth
+/// marks the page, and the count begins again with the next one that finds it without a mark. The access for which the
+/// page was read in counts once, with the read-in.
+pub fn five_reads_mark()
+    ensures { FiveReadsMark }
 {}
 
 /// No call of a book but a merge marks pages, and a merge marks only those held in the frames of its bits. So
@@ -231,7 +238,8 @@ pub fn merges_are_served()
 /// After any run, a page that a call reclaims is of the group whose turn it is for that target. By Linux's placement,
 /// groups with an old page of a file that isn't marked have their turn before all others, for a charge, for a frame and
 /// for the root. It is the page of that group that is evicted next. The lists are those that the search left, without
-/// the page, and the target's cursor then names the group.
+/// the page. The target's cursor then names the group, and says how many more pages it gives in its turn. No other
+/// cursor moves.
 pub fn pages_leave_in_order()
     ensures { PagesLeaveInOrder }
 {}

@@ -3,6 +3,8 @@ use Rattle.std.proofs.Common.{◌≡◌, ◌⊎◌, inl, inr, ℕ, zero, suc, �
 use Rattle.std.specs.Prelude.{MatchBool, slice_set, filter}
 use Rattle.std.proofs.lemmas.List.{length-map}
 use Rattle.std.proofs.lemmas.List.Sums.{length-filter}
+use Rattle.machine.specs.declared.config.Placement.TheVariants.{Own, Linux}
+use Rattle.machine.specs.declared.config.Placement.{Placement}
 use Rattle.machine.specs.declared.record.EventCounts.{EventCounts}
 use Rattle.machine.specs.declared.record.Key.{Key}
 use Rattle.machine.specs.declared.record.Key.TheVariants as key
@@ -28,11 +30,11 @@ use Rattle.machine.specs.Tasks.{Tasks, task_at, live_tasks, group_of}
 use Rattle.machine.specs.State.{Opening, State, over_in, is_frame_free}
 use Rattle.machine.specs.Access.{Meeting, Unmapped, Hits, Transferring, NeedsPage, NeedsCopy, NeedsSwapIn, NeedsRead, Dangling, meets}
 use Rattle.machine.specs.Reclaim.{has_takeable, has_open, has_transfer, stands, target_of}
-use Rattle.machine.specs.Victim.{is_live_under, killed_with, counts_of_killed, counts_of_group_kill}
+use Rattle.machine.specs.Victim.{is_live_under, killed_with, counts_of_killed, counts_of_victim, counts_of_group_kill}
 use Rattle.machine.specs.Step.{ChargeStep, HitStep, UnmappedStep, MeetStep, LifeStep, TaskStep, StartsLeave, Drops, LeavesBy, LeavesFrom, Takes, ReclaimStep, KillStep, Step}
 use Rattle.machine.specs.Legal.{Legal}
 use Rattle.machine.specs.Events.{counts_named, took_for, low_named, NamesTaken, NamesFor, Names, for_groups}
-use Rattle.machine.proofs.TakeableLemmas.{next-takeable, takeable-held, taken-named}
+use Rattle.page_lists.proofs.TakeableLemmas.{next-takeable, takeable-held, taken-named}
 use Rattle.machine.proofs.TreeLemmas.{lt_cases}
 use Rattle.counts.proofs.CountLemmas.{count_of_key-none, local-event, local-push, sum_from, sum_from-same, sum_from-le, sum_from-zero, part_under, total-is}
 use Rattle.legal.proofs.Did.{setting-is}
@@ -246,22 +248,28 @@ everywhere-groups counted (event.Mkdir path) k n =
     let same = sum_from-same (λ g. local (counted ++ no_counts ∷ []) g k) (λ g. local counted g k) 0 n (λ g from to. local-push counted g k) in omega (arith, same)
 everywhere-groups counted what k n = omega arith
 
--- a step counts at most two events, and one more for each task that dies with a group
+-- a step counts at most three events, and one more for each task that dies with a group
 module _ (old new : State) where
-  length-killed : (tree : List Node) (tasks : Tasks) (limit h : ℕ) → length (counts_of_group_kill tree tasks limit h) ≡ 2 + killed_with tree tasks h
-  length-killed tree tasks limit h =
+  length-victim : (placement : Placement) (tasks : Tasks) (victim : ℕ) → length (counts_of_victim placement tasks victim) ≤ 1
+  length-victim Own tasks victim = omega arith
+  length-victim Linux tasks victim = omega arith
+
+  length-killed : (placement : Placement) (tree : List Node) (tasks : Tasks) (limit victim h : ℕ) → length (counts_of_group_kill placement tree tasks limit victim h) ≤ 3 + killed_with tree tasks h
+  length-killed placement tree tasks limit victim h =
+      let one = length-victim placement tasks victim in
+      let both = length-append (counts_of_victim placement tasks victim) (counts_of_killed tree tasks h ++ count_of h key.OomGroupKill ∷ []) in
       let passing = filter (there_and (is_live_under tree h)) tasks in
       let more = length-append (counts_of_killed tree tasks h) (count_of h key.OomGroupKill ∷ []) in
       let each = length-map passing (λ (slot : Option Task). count_of (group_of slot) key.OomKill) in
       let many = length-filter (there_and (is_live_under tree h)) tasks in
-      omega (arith, more, each, many)
+      omega (arith, one, both, more, each, many)
 
   -- whoever dies with a group lived
   kills-live : (limit : ℕ) (victim : TaskId) (group : GroupId) (tasks : ℕ) → KillStep old limit (reply.KilledAll victim group tasks) new
       → live_tasks new.tasks + killed_with old.tree old.tasks group.0 ≤ live_tasks old.tasks
   kills-live limit victim group tasks kill = live-ended refl kill.3 (is_live_under old.tree group.0) (λ u is. (is, live_under-lives old.tree group.0 (task_at old.tasks u) is))
 
-  case-few : (what : Event) (answer : Reply) → Step old what answer new → length (counts_named old what answer) + live_tasks new.tasks ≤ live_tasks old.tasks + 2
+  case-few : (what : Event) (answer : Reply) → Step old what answer new → length (counts_named old what answer) + live_tasks new.tasks ≤ live_tasks old.tasks + 3
   case-few (event.Access t place op) (reply.Over g) h = let more = step_live old new (event.Access t place op) (reply.Over g) h in omega (arith, more)
   case-few (event.Relieve why) (reply.KilledTask t) h =
       let kill = relieves_killing old new why (reply.KilledTask t) refl (λ e. cc) (λ e. cc) h in
@@ -270,19 +278,19 @@ module _ (old new : State) where
   case-few (event.Relieve why) (reply.KilledAll victim g tasks) h =
       let kill = relieves_killing old new why (reply.KilledAll victim g tasks) refl (λ e. cc) (λ e. cc) h in
       let less = kills-live (target_of why) victim g tasks kill.1 in
-      let many = length-killed old.tree old.tasks (target_of why) g.0 in
+      let many = length-killed old.opening.placement old.tree old.tasks (target_of why) victim.0 g.0 in
       omega (arith, less, many)
   case-few (event.Relieve why) reply.NoVictim h = let more = step_live old new (event.Relieve why) reply.NoVictim h in omega (arith, more)
   case-few what answer h = let more = step_live old new what answer h in omega (arith, more)
 
-  named-few : (what : Event) (answer : Reply) → Step old what answer new → (named : List Counted) → Names old what answer new named → length named + live_tasks new.tasks ≤ live_tasks old.tasks + 2
+  named-few : (what : Event) (answer : Reply) → Step old what answer new → (named : List Counted) → Names old what answer new named → length named + live_tasks new.tasks ≤ live_tasks old.tasks + 3
   named-few what answer step named names = by_taken (took_for what answer) names
     where
       of_low : (b : Bool) (g : ℕ) → length (cond b [] (count_of g key.Low ∷ [])) ≤ 1
       of_low true g = omega arith
       of_low false g = omega arith
 
-      by_taken : (taken : Option ℕ) → NamesFor taken old what answer new named → length named + live_tasks new.tasks ≤ live_tasks old.tasks + 2
+      by_taken : (taken : Option ℕ) → NamesFor taken old what answer new named → length named + live_tasks new.tasks ≤ live_tasks old.tasks + 3
       by_taken None is = let same = ap (λ (cs : List Counted). length cs) is in let few = case-few what answer step in omega (arith, same, few)
       by_taken (Some target) taken =
           let same = ap (λ (cs : List Counted). length cs) taken.are in
@@ -290,8 +298,8 @@ module _ (old new : State) where
           let more = step_live old new what answer step in
           omega (arith, same, le, more)
 
--- each entry adds at most two events, but for those of tasks that live no more, of which each had an entry that made it
-few-live : (opening : Opening) (history : List Entry) (s : State) → Legal opening history s → (k : Key) (n : ℕ) → everywhere s.counted k n + live_tasks s.tasks ≤ length history + length history
+-- each entry adds at most three events, but for those of tasks that live no more, of which each had an entry that made it
+few-live : (opening : Opening) (history : List Entry) (s : State) → Legal opening history s → (k : Key) (n : ℕ) → everywhere s.counted k n + live_tasks s.tasks ≤ length history + length history + length history
 few-live opening [] s legal k n =
     let none = ap (λ (t : State). everywhere t.counted k n) legal ∙ sum_from-zero _ 0 n (λ g from to. nothing g) in
     let nobody : live_tasks s.tasks ≡ 0 = ap (λ (t : State). live_tasks t.tasks) legal in
@@ -310,11 +318,11 @@ few-live opening (entry ∷ earlier) s (before, legal, extends) k n =
     let longer = add-one (length earlier) in
     omega (arith, so_far, is, more, groups, few, longer)
 
--- no key is counted more often than twice for each entry
-pub few-everywhere : (opening : Opening) (history : List Entry) (s : State) → Legal opening history s → (k : Key) (n : ℕ) → everywhere s.counted k n ≤ length history + length history
+-- no key is counted more often than three times for each entry
+pub few-everywhere : (opening : Opening) (history : List Entry) (s : State) → Legal opening history s → (k : Key) (n : ℕ) → everywhere s.counted k n ≤ length history + length history + length history
 few-everywhere opening history s legal k n = let few = few-live opening history s legal k n in omega (arith, few)
 
-pub few-total : (opening : Opening) (history : List Entry) (s : State) → Legal opening history s → (tree : List Node) (a : ℕ) (k : Key) → total tree s.counted a k ≤ length history + length history
+pub few-total : (opening : Opening) (history : List Entry) (s : State) → Legal opening history s → (tree : List Node) (a : ℕ) (k : Key) → total tree s.counted a k ≤ length history + length history + length history
 few-total opening history s legal tree a k =
     let is = total-is tree s.counted a k in
     let le = sum_from-le (part_under tree s.counted a k) (λ g. local s.counted g k) 0 (length tree) (λ g from to. part-le (under tree a g) (local s.counted g k)) in

@@ -7,6 +7,8 @@ use Rattle.std.specs.List.{All, last_or}
 use Rattle.std.proofs.lemmas.List.Elements.{All-nil, All-cons, All-head, All-tail, All-append, All-filter, All-take}
 use Rattle.std.proofs.lemmas.List.Sums.{sum_by-append, sum_by-cons}
 use Rattle.std.proofs.Math.ListN.{get_or-eq_default}
+use Rattle.machine.specs.declared.config.Placement.TheVariants.{Own, Linux}
+use Rattle.machine.specs.declared.config.Placement.{Placement}
 use Rattle.machine.specs.declared.entry.Entry.{Entry}
 use Rattle.machine.specs.declared.record.EventCounts.{EventCounts}
 use Rattle.machine.specs.declared.record.Key.{Key}
@@ -34,7 +36,7 @@ use Rattle.machine.specs.Tasks.{Tasks, task_at, is_live_life, is_live_task, live
 use Rattle.machine.specs.State.{Opening, State, first_state, usage, over_in, is_frame_free}
 use Rattle.machine.specs.Access.{Meeting, Unmapped, Hits, Transferring, NeedsPage, NeedsCopy, NeedsSwapIn, NeedsRead, Dangling, meets}
 use Rattle.machine.specs.Reclaim.{has_open, stands, target_of}
-use Rattle.machine.specs.Victim.{is_live_under, is_candidate, is_flagged, chain_to, kill_group, counts_of_killed}
+use Rattle.machine.specs.Victim.{is_live_under, is_candidate, is_flagged, chain_to, kill_group, counts_of_killed, counts_of_victim}
 use Rattle.machine.specs.Step.{ChargeStep, HitStep, MeetStep, LifeStep, TaskStep, new_node, Step}
 use Rattle.machine.specs.Legal.{Extends, Legal}
 use Rattle.machine.specs.Events.{counts_named, took_for, low_named, NamesFor, Names, AreCounted, for_groups}
@@ -107,6 +109,10 @@ all-of n [] ys are more = more
 all-of n (c ∷ xs) ys are more = (are.0, all-of n xs ys are.1 more)
 
 -- the group of each task that dies with a group
+victim-there : (placement : Placement) (n : ℕ) (tasks : Tasks) (victim : ℕ) → group_of_task tasks victim < n → AreOf n (counts_of_victim placement tasks victim)
+victim-there Own n tasks victim own = tt
+victim-there Linux n tasks victim own = (own, tt)
+
 killed-there : (tree : List Node) (h n : ℕ) (tasks : Tasks) → ((t : ℕ) → lives tasks t ≡ true → group_of_task tasks t < n) → AreOf n (counts_of_killed tree tasks h)
 killed-there tree h n [] homes = tt
 killed-there tree h n (slot ∷ tasks) homes = by_test (there_and (is_live_under tree h) slot) refl (killed-there tree h n tasks (λ t. homes (suc t)))
@@ -230,8 +236,9 @@ module _ (opening : Opening) (history : List Entry) (old new : State) (legal : L
       let limit = target-there some why kill.0 in
       let own = home-there victim.0 (candidate_lives old.tree old.tasks (target_of why) victim.0 kill.1.0.among) in (
         limit,
-        all-of (length old.tree) (counts_of_killed old.tree old.tasks g.0) _ (killed-there old.tree g.0 (length old.tree) old.tasks home-there)
-            (kill_group-there old.tree sound.falls old.flags (length old.tree) (target_of why) (group_of_task old.tasks victim.0) g.0 limit own kill.1.1, tt),
+        all-of (length old.tree) (counts_of_victim old.opening.placement old.tasks victim.0) _ (victim-there old.opening.placement (length old.tree) old.tasks victim.0 own)
+            (all-of (length old.tree) (counts_of_killed old.tree old.tasks g.0) _ (killed-there old.tree g.0 (length old.tree) old.tasks home-there)
+            (kill_group-there old.tree sound.falls old.flags (length old.tree) (target_of why) (group_of_task old.tasks victim.0) g.0 limit own kill.1.1, tt)),
       )
   case-there some (event.Relieve why) reply.NoVictim h = let kill = relieves_killing old new why reply.NoVictim refl (λ e. cc) (λ e. cc) h in (target-there some why kill.0, tt)
   case-there some what answer h = tt

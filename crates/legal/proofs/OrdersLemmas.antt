@@ -10,14 +10,15 @@ use Rattle.machine.specs.declared.reply.Reply.{Reply}
 use Rattle.machine.specs.declared.reply.Reply.TheVariants as reply
 use Rattle.machine.specs.Pages.{Pages, is_held_in, is_number}
 use Rattle.machine.specs.State.{State, is_swap_free}
+use Rattle.machine.specs.Order.{Cursor}
 use Rattle.machine.specs.Reclaim.{target_of, goal_of}
 use Rattle.machine.specs.Generations.{Gens}
 use Rattle.machine.specs.Aging.{Seen, is_marked}
 use Rattle.machine.specs.Eviction.{Picks}
 use Rattle.machine.specs.Tree.{node_at}
-use Rattle.machine.specs.Lists.{HeldLists, Order, served, seen_of, with_seen, kept_gens, Generation, Youngest, with_fresh, GoesOn, TakesNext, RemovesLists, Keeps, MergesMarks, Orders}
+use Rattle.machine.specs.Lists.{HeldLists, hits_at, Order, served, cursor_served, seen_of, with_seen, kept_gens, Generation, Youngest, with_fresh, GoesOn, TakesNext, RemovesLists, Keeps, MergesMarks, Orders}
 use Rattle.machine.proofs.Values.{some_inj}
-use Rattle.machine.proofs.PicksLemmas.{picks_alike}
+use Rattle.page_lists.proofs.PicksLemmas.{picks_alike}
 
 -- ---- numbers and marks that answer alike are one
 
@@ -33,17 +34,25 @@ marks_alike [] (n ∷ ns) size h = absurd (omega (arith, size))
 marks_alike (m ∷ ms) [] size h = absurd (omega (arith, size))
 marks_alike (m ∷ ms) (n ∷ ns) size h = let first : m ≡ n = h 0 in let rest = marks_alike ms ns (omega (arith, size)) (λ p. h (suc p)) in cc
 
+hits_alike : (ms ns : List ℕ) → length ms ≡ length ns → ((p : ℕ) → hits_at ms p ≡ hits_at ns p) → ms ≡ ns
+hits_alike [] [] size h = refl
+hits_alike [] (n ∷ ns) size h = absurd (omega (arith, size))
+hits_alike (m ∷ ms) [] size h = absurd (omega (arith, size))
+hits_alike (m ∷ ms) (n ∷ ns) size h = let first : m ≡ n = h 0 in let rest = hits_alike ms ns (omega (arith, size)) (λ p. h (suc p)) in cc
+
 -- ---- the lists
 
--- lists with the same groups and marks are the same
-pub lists_same : (held held' : HeldLists) → held.groups ≡ held'.groups → held.marks ≡ held'.marks → held ≡ held'
-lists_same held held' groups marks =
-    ap (λ (gs : List Gens). let h : HeldLists = record { groups = gs; marks = held.marks } in h) groups ∙ ap (λ (ms : List Bool). let h : HeldLists = record { groups = held'.groups; marks = ms } in h) marks
+-- lists with the same groups, marks and hits are the same
+pub lists_same : (held held' : HeldLists) → held.groups ≡ held'.groups → held.marks ≡ held'.marks → held.hits ≡ held'.hits → held ≡ held'
+lists_same held held' groups marks hits =
+    ap (λ (gs : List Gens). let h : HeldLists = record { groups = gs; marks = held.marks; hits = held.hits } in h) groups
+    ∙ ap (λ (ms : List Bool). let h : HeldLists = record { groups = held'.groups; marks = ms; hits = held.hits } in h) marks
+    ∙ ap (λ (ns : List ℕ). let h : HeldLists = record { groups = held'.groups; marks = held'.marks; hits = ns } in h) hits
 
 -- an order with the same lists and cursors is the same
 pub order_same : (order order' : Order) → order.held ≡ order'.held → order.cursors ≡ order'.cursors → order ≡ order'
 order_same order order' held cursors =
-    ap (λ (h : HeldLists). let o : Order = record { held = h; cursors = order.cursors } in o) held ∙ ap (λ (cs : List (Option ℕ)). let o : Order = record { held = order'.held; cursors = cs } in o) cursors
+    ap (λ (h : HeldLists). let o : Order = record { held = h; cursors = order.cursors } in o) held ∙ ap (λ (cs : List Cursor). let o : Order = record { held = order'.held; cursors = cs } in o) cursors
 
 -- the pages that change say what becomes of the lists
 pub goes_on_alike : (generation : Generation) (before : Pages) (held : HeldLists) (after : Pages) (held' held'' : HeldLists)
@@ -52,7 +61,8 @@ goes_on_alike generation before held after held' held'' h h' =
     let fresh : h.fresh ≡ h'.fresh = numbers_alike h.fresh h'.fresh (λ p. h.which p ∙ sym (h'.which p)) in
     let groups : held'.groups ≡ held''.groups = h.groups ∙ ap (λ (p : Option ℕ). with_fresh generation after p (map (kept_gens after) held.groups)) fresh ∙ sym h'.groups in
     let marks : held'.marks ≡ held''.marks = marks_alike held'.marks held''.marks (h.size ∙ sym h'.size) (λ p. h.marks p ∙ sym (h'.marks p)) in
-    lists_same held' held'' groups marks
+    let hits : held'.hits ≡ held''.hits = hits_alike held'.hits held''.hits (h.counts ∙ sym h'.counts) (λ p. h.hits p ∙ sym (h'.hits p)) in
+    lists_same held' held'' groups marks hits
 
 -- ---- the order
 
@@ -77,7 +87,7 @@ module _ (old new : State) (order order' order'' : Order) where
       let looked : h.looked ≡ h'.looked = h.picked.lists ∙ ap (λ (g : ℕ). with_seen order.held g h.picked.seen) group ∙ ap (with_seen order.held h'.g) seen ∙ sym h'.picked.lists in
       let leaves : GoesOn Youngest old.pages h'.looked new.pages order'.held = subst (λ (held : HeldLists). GoesOn Youngest old.pages held new.pages order'.held) looked h.leaves in
       let held : order'.held ≡ order''.held = goes_on_alike Youngest old.pages h'.looked new.pages order'.held order''.held leaves h'.leaves in
-      let cursors : order'.cursors ≡ order''.cursors = h.moves ∙ ap (λ (g : ℕ). slice_set order.cursors target (Some g)) group ∙ sym h'.moves in
+      let cursors : order'.cursors ≡ order''.cursors = h.moves ∙ ap (λ (g : ℕ). slice_set order.cursors target (cursor_served old order goal target g)) group ∙ sym h'.moves in
       order_same order' order'' held cursors
 
   -- an order that is kept
@@ -88,10 +98,12 @@ module _ (old new : State) (order order' order'' : Order) where
       order_same order' order'' held cursors
 
   -- marks that are merged
-  merges_alike : (word bits : ℕ) → MergesMarks old.pages word bits order.held order'.held × (order'.cursors ≡ order.cursors) → MergesMarks old.pages word bits order.held order''.held × (order''.cursors ≡ order.cursors) → order' ≡ order''
+  merges_alike : (word bits : ℕ) → MergesMarks old.opening.placement old.pages word bits order.held order'.held × (order'.cursors ≡ order.cursors)
+      → MergesMarks old.opening.placement old.pages word bits order.held order''.held × (order''.cursors ≡ order.cursors) → order' ≡ order''
   merges_alike word bits h h' =
       let marks : order'.held.marks ≡ order''.held.marks = marks_alike order'.held.marks order''.held.marks (h.0.size ∙ sym h'.0.size) (λ p. h.0.marks p ∙ sym (h'.0.marks p)) in
-      order_same order' order'' (lists_same order'.held order''.held (h.0.groups ∙ sym h'.0.groups) marks) (h.1 ∙ sym h'.1)
+      let hits : order'.held.hits ≡ order''.held.hits = hits_alike order'.held.hits order''.held.hits (h.0.counts ∙ sym h'.0.counts) (λ p. h.0.hits p ∙ sym (h'.0.hits p)) in
+      order_same order' order'' (lists_same order'.held order''.held (h.0.groups ∙ sym h'.0.groups) marks hits) (h.1 ∙ sym h'.1)
 
   -- lists that go over to a parent's
   removes_alike : (parent : Option ℕ) (g : ℕ) → RemovesLists parent g order order' → RemovesLists parent g order order'' → order' ≡ order''

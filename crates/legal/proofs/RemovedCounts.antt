@@ -24,8 +24,8 @@ use Rattle.machine.proofs.RemovedLemmas.{regrouped-test, without-parent, without
 use Rattle.machine.proofs.SlotLemmas.{count_there-none}
 use Rattle.machine.proofs.TestLemmas.{tests-less}
 use Rattle.legal.proofs.SoundLemmas.{IsFit, IsSound}
-use Rattle.machine.proofs.HeldLemmas.{at-set}
-use Rattle.machine.proofs.HandedLemmas.{held-handed, generations-handed}
+use Rattle.page_lists.proofs.HeldLemmas.{at-set}
+use Rattle.page_lists.proofs.HandedLemmas.{held-handed, generations-handed}
 use Rattle.counts.proofs.CountLemmas.{total-alike}
 
 -- whatever answers a removal, the group is removed
@@ -47,7 +47,7 @@ module _ (tree : List Node) (falls : IsTree tree) (above : (g p : ℕ) → is_li
   by_own n a g less live rest true same is = ap (is_live tree) (eqb-true a g same) ∙ live
   by_own n a g less live rest false other is = by_parent n a g less live rest (node_at tree g).parent refl is
 
-  live-above : (n a g : ℕ) → g < n → is_live tree g ≡ true → under tree a g ≡ true → is_live tree a ≡ true
+  pub live-above : (n a g : ℕ) → g < n → is_live tree g ≡ true → under tree a g ≡ true → is_live tree a ≡ true
   live-above zero a g less live is = absurd (omega (arith, less))
   live-above (suc n) a g less live is =
       by_own n a g less live (live-above n a) (a == g) refl (ap (λ (b : Bool). b) (sym (under_at-step tree falls a g)) ∙ is)
@@ -166,7 +166,7 @@ module _ (old new : State) (g : ℕ) (removes : Removes old g new) (falls : IsTr
   apart same = let low = lower in omega (arith, low, same)
 
   abbrev pub handed : HeldLists
-  handed = record { groups = handed_over g removes.parent held.groups; marks = held.marks }
+  handed = record { groups = handed_over g removes.parent held.groups; marks = held.marks; hits = held.hits }
 
   pub held-removed : ListsHeld old.pages held → ListsHeld new.pages handed
   held-removed were = held-handed old.pages new.pages held g removes.parent apart here there were removes.pages

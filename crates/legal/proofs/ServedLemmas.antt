@@ -12,7 +12,7 @@ use Rattle.machine.specs.declared.event.Goal.{Goal}
 use Rattle.machine.specs.Slots.{at, any_there}
 use Rattle.machine.specs.Tree.{Node, node_at, is_live, is_child, is_parent, under, under_at, IsTree, numbers, preorder_to, preorder}
 use Rattle.machine.specs.Pages.{Page}
-use Rattle.machine.specs.Order.{round_from, place_in, asking_order, served_by, heeds_age, served_first, cursor_at}
+use Rattle.machine.specs.Order.{Cursor, round_from, place_in, in_turn, asking_order, served_by, heeds_age, takes_parts, served_first, cursor_at}
 use Rattle.machine.specs.State.{Opening, State}
 use Rattle.machine.specs.Reclaim.{is_next}
 use Rattle.machine.specs.Eviction.{has_old_file}
@@ -20,7 +20,7 @@ use Rattle.machine.specs.Lists.{Order, seen_of, is_next_of, gives, gives_old, se
 use Rattle.machine.specs.Legal.{Legal}
 use Rattle.machine.proofs.Values.{some_inj, unlike}
 use Rattle.machine.proofs.TreeLemmas.{eq_cases, under_at-None, under_at-step}
-use Rattle.machine.proofs.TakeableLemmas.{next-takeable, takeable-below}
+use Rattle.page_lists.proofs.TakeableLemmas.{next-takeable, takeable-below}
 use Rattle.legal.proofs.SoundLemmas.{live-below, legal-sound, legal-fit}
 
 -- ---- the first of a list that passes
@@ -189,17 +189,22 @@ giver-asked opening history s legal target g given =
 -- ---- who is served
 
 -- where age is heeded, and a group of the walk has an old one to give, so has the one that is served
-first-has_old : (tree : List Node) (gives_old gives : ℕ → Bool) (target : ℕ) (last : Option ℕ) (h g : ℕ) → list_any (λ a. a == h) (preorder tree target) ≡ true → gives_old h ≡ true
-    → served_first true tree gives_old gives target last ≡ Some g → gives_old g ≡ true
-first-has_old tree gives_old gives target last h g here old next = by_found (served_by tree gives_old target last) refl next
+first-has_old : (parts : Bool) (tree : List Node) (gives_old gives : ℕ → Bool) (target : ℕ) (cursor : Cursor) (h g : ℕ) → list_any (λ a. a == h) (preorder tree target) ≡ true → gives_old h ≡ true
+    → served_first true parts tree gives_old gives target cursor ≡ Some g → gives_old g ≡ true
+first-has_old parts tree gives_old gives target cursor h g here old next = by_found (served_by parts tree gives_old target cursor) refl next
   where
+    round : List ℕ
+    round = round_from (preorder tree target) (place_in (preorder tree target) cursor.group)
+
     order : List ℕ
-    order = asking_order tree target last
+    order = asking_order parts tree target cursor
 
     one : list_any gives_old order ≡ true
-    one = round-any gives_old (preorder tree target) (place_in (preorder tree target) last) ∙ one-passes gives_old h (preorder tree target) here old
+    one =
+        list_any-append gives_old (in_turn parts tree target cursor) round
+        ∙ or_right _ _ (round-any gives_old (preorder tree target) (place_in (preorder tree target) cursor.group) ∙ one-passes gives_old h (preorder tree target) here old)
 
-    by_found : (found : Option ℕ) → served_by tree gives_old target last ≡ found → option_or found (served_by tree gives target last) ≡ Some g → gives_old g ≡ true
+    by_found : (found : Option ℕ) → served_by parts tree gives_old target cursor ≡ found → option_or found (served_by parts tree gives target cursor) ≡ Some g → gives_old g ≡ true
     by_found None none is = unlike (list_any gives_old order) one (none-passes gives_old order none)
     by_found (Some a) found is = found-passes gives_old order g (found ∙ is)
 
@@ -209,5 +214,6 @@ pub served-has_old : (opening : Opening) (history : List Entry) (s : State) → 
 served-has_old opening history s legal order goal target h g heeds old next =
     let asked = giver-asked opening history s legal target h (and_parts (gives s target h) (has_old_file (seen_of order.held h)) old).0 in
     let heeded : heeds_age s.opening.placement goal target ≡ true = ap (λ (o : Opening). heeds_age o.placement goal target) (legal-sound opening history s legal).0 ∙ heeds in
-    first-has_old s.tree (gives_old s order.held target) (gives s target) target (cursor_at order.cursors target) h g asked old
-    (ap (λ b. served_first b s.tree (gives_old s order.held target) (gives s target) target (cursor_at order.cursors target)) (sym heeded) ∙ next)
+    let parts = takes_parts s.opening.placement goal in
+    first-has_old parts s.tree (gives_old s order.held target) (gives s target) target (cursor_at order.cursors target) h g asked old
+    (ap (λ b. served_first b parts s.tree (gives_old s order.held target) (gives s target) target (cursor_at order.cursors target)) (sym heeded) ∙ next)

@@ -39,7 +39,7 @@ use Rattle.machine.specs.Call.{Past, Caller, Refuses, Answers, Answered, JudgedB
 use Rattle.machine.proofs.Values.{some_inj, never_some, unlike}
 use Rattle.machine.proofs.TreeLemmas.{eq_cases}
 use Rattle.legal.proofs.MoveLemmas.{Met, met, MetFile, met_file}
-use Rattle.machine.proofs.PicksLemmas.{picks_alike}
+use Rattle.page_lists.proofs.PicksLemmas.{picks_alike}
 
 -- ---- replies that are alike
 

@@ -34,7 +34,7 @@ use Rattle.legal.proofs.MoveLemmas.{Met, met, MetFile, met_file}
 use Rattle.legal.proofs.Did.{is_rmdir, read_page, Did, Kept, Made, Moved, Cached, Dropped, Ended, Spawned, Forked, Freed, Attached, Removed, Grown, step_did}
 use Rattle.machine.proofs.RemovedLemmas.{regrouped-some}
 use Rattle.legal.proofs.SoundLemmas.{IsFit, legal-sound}
-use Rattle.machine.proofs.HeldLemmas.{SamePlaces, HasLists}
+use Rattle.page_lists.proofs.HeldLemmas.{SamePlaces, HasLists}
 
 -- ---- groups and types
 

@@ -32,13 +32,13 @@ use Rattle.pages.specs.PagesOf.{labelled, moving}
 use Rattle.pages.proofs.TableLemmas.{any-some}
 use Rattle.book.specs.declared.kept.Asked.{Asked}
 use Rattle.book.specs.declared.kept.Kept.TheVariants.{Call as Kept_call}
-use Rattle.book.specs.declared.event.Event.{Event as Asks}
-use Rattle.book.specs.declared.event.Event.TheVariants as event
-use Rattle.book.specs.declared.event.Reply.{Reply as Answer}
-use Rattle.book.specs.declared.event.Reply.TheVariants as answer
-use Rattle.book.specs.Events.{event_of, reply_of}
+use Rattle.book_events.specs.declared.event.Event.{Event as Asks}
+use Rattle.book_events.specs.declared.event.Event.TheVariants as event
+use Rattle.book_events.specs.declared.event.Reply.{Reply as Answer}
+use Rattle.book_events.specs.declared.event.Reply.TheVariants as answer
+use Rattle.book_events.specs.Events.{event_of, reply_of}
 use Rattle.book.specs.Passes.{asked_of, call_of}
-use Rattle.book.specs.Replies.{HandsOut}
+use Rattle.book_events.specs.Replies.{HandsOut}
 use Rattle.book.proofs.FlightLemmas.{flying-stands}
 use Rattle.live.specs.declared.history.Exchange.{Exchange}
 use Rattle.live.specs.declared.history.Exchange.TheVariants.{Call}

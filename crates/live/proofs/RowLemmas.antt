@@ -5,6 +5,7 @@ use Rattle.machine.specs.declared.config.Watermarks.{Watermarks}
 use Rattle.machine.specs.declared.command.Actor.{Actor}
 use Rattle.machine.specs.declared.command.Command.{Command}
 use Rattle.machine.specs.declared.command.Reply.{Reply as Told_by}
+use Rattle.machine.specs.State.{Opening}
 use Rattle.machine.specs.Tree.{Node, find_group}
 use Rattle.book.specs.Passes.{PassOf, find_of, keeping}
 use Rattle.live.specs.declared.history.Exchange.{Exchange}
@@ -12,7 +13,7 @@ use Rattle.live.specs.Exchanges.{kept_of}
 use Rattle.turns.specs.declared.turn.Stage.{Stage}
 use Rattle.turns.specs.declared.turn.Transition.{Transition}
 use Rattle.turns.specs.Turns.{Judged, paths_of, judged, answer_by}
-use Rattle.turns.specs.Finds.{looking}
+use Rattle.judging.specs.Finds.{looking}
 use Rattle.turns.specs.Tickets.{holds}
 use Rattle.live.specs.Works.{GoesOn, JudgedRuns, Does, Works, Worked, Repeated, no_memory, finds_of}
 use Rattle.live.specs.Runs.{Made, Linked, Closed, Under, Ran, Looked, Judging, Did, Done}
@@ -61,8 +62,8 @@ pub looking-caller : (tree : List Node) (paths : List (List ℕ)) (pass : PassOf
 looking-caller tree [] pass = refl
 looking-caller tree (path ∷ paths) pass = looking-caller tree paths (keeping pass (find_of path (find_group tree path)))
 
-pub looked : (tree : List Node) (who : Actor) (what : Command) (old new : List Exchange) (result : Judged) → new ≡ old ++ finds_of (paths_of who what) (map (find_group tree) (paths_of who what)) → result ≡ judged tree who what → Looked who what old new result
-looked tree who what old new result goes is = record {
+pub looked : (opening : Opening) (tree : List Node) (who : Actor) (what : Command) (old new : List Exchange) (result : Judged) → new ≡ old ++ finds_of (paths_of who what) (map (find_group tree) (paths_of who what)) → result ≡ judged opening tree who what → Looked opening who what old new result
+looked opening tree who what old new result goes is = record {
   found = map (find_group tree) (paths_of who what);
   each = finds-length tree (paths_of who what);
   keeps = goes;
@@ -72,8 +73,8 @@ looked tree who what old new result goes is = record {
 -- ---- commands
 
 -- a command: refused when it was judged, or run, or memory was wanted at once
-pub did_none : (marks : Watermarks) (who : Actor) (what : Command) (k k' : List Exchange) (t t' : List Told_by) → k' ≡ k → t' ≡ t ++ answer_by who no_memory → Did marks who what k k' t t'
-did_none marks who what k k' t t' keeps tells = record {
+pub did_none : (opening : Opening) (who : Actor) (what : Command) (k k' : List Exchange) (t t' : List Told_by) → k' ≡ k → t' ≡ t ++ answer_by who no_memory → Did opening who what k k' t t'
+did_none opening who what k k' t t' keeps tells = record {
   added = [];
   said = answer_by who no_memory;
   keeps = keeps ∙ sym (append-nil k);
@@ -81,41 +82,41 @@ did_none marks who what k k' t t' keeps tells = record {
   does = inr (refl, refl);
 }
 
-pub did_judged : (marks : Watermarks) (who : Actor) (what : Command) (k0 k1 k2 : List Exchange) (t t' : List Told_by) (result : Judged)
-    → Looked who what k0 k1 result → Judging marks who result k1 k2 t t' → Did marks who what k0 k2 t t'
-did_judged marks who what k0 k1 k2 t t' result j r = record {
+pub did_judged : (opening : Opening) (who : Actor) (what : Command) (k0 k1 k2 : List Exchange) (t t' : List Told_by) (result : Judged)
+    → Looked opening who what k0 k1 result → Judging opening.watermarks who result k1 k2 t t' → Did opening who what k0 k2 t t'
+did_judged opening who what k0 k1 k2 t t' result j r = record {
   added = finds_of (paths_of who what) j.found ++ r.added;
   said = r.said;
   keeps = joins k0 k1 k2 (finds_of (paths_of who what) j.found) r.added j.keeps r.keeps;
   tells = r.tells;
-  does = inl (record { found = j.found; later = r.added; each = j.each; runs = subst (λ (x : Judged). JudgedRuns marks who x r.added r.said) j.is r.runs; keeps = refl });
+  does = inl (record { found = j.found; later = r.added; each = j.each; runs = subst (λ (x : Judged). JudgedRuns opening.watermarks who x r.added r.said) j.is r.runs; keeps = refl });
 }
 
 -- one command more
-works_more : (marks : Watermarks) (who : Actor) (cs : List Command) (what : Command) (added here : List Exchange) (said now : List Told_by)
-    → Works marks who cs added said → Does marks who what here now → Works marks who (cs ++ what ∷ []) (added ++ here) (said ++ now)
-works_more marks who [] what added here said now h d =
+works_more : (opening : Opening) (who : Actor) (cs : List Command) (what : Command) (added here : List Exchange) (said now : List Told_by)
+    → Works opening who cs added said → Does opening who what here now → Works opening who (cs ++ what ∷ []) (added ++ here) (said ++ now)
+works_more opening who [] what added here said now h d =
     (here, [], now, [], d, (refl, refl), ap (λ l. l ++ here) h.0 ∙ sym (append-nil here), ap (λ l. l ++ now) h.1 ∙ sym (append-nil now))
-works_more marks who (c ∷ cs) what added here said now h d = (
+works_more opening who (c ∷ cs) what added here said now h d = (
   h.0,
   h.1 ++ here,
   h.2,
   h.3 ++ now,
   h.4,
-  works_more marks who cs what h.1 here h.3 now h.5 d,
+  works_more opening who cs what h.1 here h.3 now h.5 d,
   ap (λ l. l ++ here) h.6 ∙ append_assoc h.0 h.1 here,
   ap (λ l. l ++ now) h.7 ∙ append_assoc h.2 h.3 now,
 )
 
-pub worked_none : (marks : Watermarks) (who : Actor) (k : List Exchange) → Worked marks who [] k k []
-worked_none marks who k = record { added = []; keeps = sym (append-nil k); works = (refl, refl) }
+pub worked_none : (opening : Opening) (who : Actor) (k : List Exchange) → Worked opening who [] k k []
+worked_none opening who k = record { added = []; keeps = sym (append-nil k); works = (refl, refl) }
 
-pub worked_more : (marks : Watermarks) (who : Actor) (cs : List Command) (what : Command) (k0 k1 k2 : List Exchange) (t1 t2 : List Told_by)
-    → Worked marks who cs k0 k1 t1 → Did marks who what k1 k2 t1 t2 → Worked marks who (cs ++ what ∷ []) k0 k2 t2
-worked_more marks who cs what k0 k1 k2 t1 t2 w d = record {
+pub worked_more : (opening : Opening) (who : Actor) (cs : List Command) (what : Command) (k0 k1 k2 : List Exchange) (t1 t2 : List Told_by)
+    → Worked opening who cs k0 k1 t1 → Did opening who what k1 k2 t1 t2 → Worked opening who (cs ++ what ∷ []) k0 k2 t2
+worked_more opening who cs what k0 k1 k2 t1 t2 w d = record {
   added = w.added ++ d.added;
   keeps = joins k0 k1 k2 w.added d.added w.keeps d.keeps;
-  works = subst (λ (t : List Told_by). Works marks who (cs ++ what ∷ []) (w.added ++ d.added) t) (sym d.tells) (works_more marks who cs what w.added d.added t1 d.said w.works d.does);
+  works = subst (λ (t : List Told_by). Works opening who (cs ++ what ∷ []) (w.added ++ d.added) t) (sym d.tells) (works_more opening who cs what w.added d.added t1 d.said w.works d.does);
 }
 
 -- a turn after which the command goes on
@@ -144,16 +145,16 @@ pub taken : {A : Type 0} (xs : List A) (i : ℕ) (x : A) → i < length xs → x
 taken xs i x lt is = take_more xs i x lt ∙ ap (λ y. take i xs ++ y ∷ []) (sym is)
 
 -- one run more
-pub repeated_none : (marks : Watermarks) (who : Actor) (what : Command) (k : List Exchange) → Repeated marks who what k k
-repeated_none marks who what k = record { row = []; added = []; keeps = sym (append-nil k); repeats = refl }
+pub repeated_none : (opening : Opening) (who : Actor) (what : Command) (k : List Exchange) → Repeated opening who what k k
+repeated_none opening who what k = record { row = []; added = []; keeps = sym (append-nil k); repeats = refl }
 
-pub repeated_more : (marks : Watermarks) (who : Actor) (what : Command) (k0 k1 k2 : List Exchange) → Repeated marks who what k0 k1 → Done marks who what k1 k2 → Repeated marks who what k0 k2
-repeated_more marks who what k0 k1 k2 r d = record {
+pub repeated_more : (opening : Opening) (who : Actor) (what : Command) (k0 k1 k2 : List Exchange) → Repeated opening who what k0 k1 → Done opening who what k1 k2 → Repeated opening who what k0 k2
+repeated_more opening who what k0 k1 k2 r d = record {
   row = d.added ∷ r.row;
   added = r.added ++ d.added;
   keeps = joins k0 k1 k2 r.added d.added r.keeps d.keeps;
   repeats = (r.added, d.said, r.repeats, d.does, refl);
 }
 
-pub done_none : (marks : Watermarks) (who : Actor) (what : Command) (k k' : List Exchange) → k' ≡ k → Done marks who what k k'
-done_none marks who what k k' same = record { added = []; said = answer_by who no_memory; keeps = same ∙ sym (append-nil k); does = inr (refl, refl) }
+pub done_none : (opening : Opening) (who : Actor) (what : Command) (k k' : List Exchange) → k' ≡ k → Done opening who what k k'
+done_none opening who what k k' same = record { added = []; said = answer_by who no_memory; keeps = same ∙ sym (append-nil k); does = inr (refl, refl) }

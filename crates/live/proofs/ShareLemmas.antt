@@ -9,17 +9,17 @@ use Rattle.machine.specs.declared.reply.Reply.{Reply as Plain_reply}
 use Rattle.machine.specs.declared.reply.Reply.TheVariants as said
 use Rattle.machine.specs.declared.refusal.Refusal.TheVariants.{Stranger}
 use Rattle.machine.specs.Transfers.{ends_transfer}
-use Rattle.book.specs.declared.event.Event.{Event}
-use Rattle.book.specs.declared.event.Event.TheVariants as event
-use Rattle.book.specs.declared.event.Reply.{Reply}
-use Rattle.book.specs.declared.event.Reply.TheVariants as reply
+use Rattle.book_events.specs.declared.event.Event.{Event}
+use Rattle.book_events.specs.declared.event.Event.TheVariants as event
+use Rattle.book_events.specs.declared.event.Reply.{Reply}
+use Rattle.book_events.specs.declared.event.Reply.TheVariants as reply
 use Rattle.book.specs.declared.kept.Asked.{Asked}
 use Rattle.book.specs.declared.kept.Kept.{Kept}
 use Rattle.book.specs.declared.kept.Kept.TheVariants.{Call}
-use Rattle.book.specs.Events.{event_of, reply_of}
+use Rattle.book_events.specs.Events.{event_of, reply_of}
 use Rattle.book.specs.Passes.{asked_of, call_of, find_of}
 use Rattle.live.specs.Exchanges.{kept_of}
-use Rattle.book.specs.Replies.{Replies, IsInReply, IsOutReply}
+use Rattle.book_events.specs.Replies.{Replies, IsInReply, IsOutReply}
 use Rattle.turns.specs.Tickets.{is_ending, gives_ticket}
 use Rattle.live.specs.Works.{finds_of}
 use Rattle.live.specs.Matching.{asks_end, begins, ends, begun, ended, has_share}

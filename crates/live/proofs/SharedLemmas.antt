@@ -16,10 +16,10 @@ use Rattle.machine.specs.Call.{Past, Caller, first_past, leaves_entry, is_trace_
 use Rattle.machine.specs.Legal.{Legal}
 use Rattle.legal.proofs.OpeningLemmas.{called_opening}
 use Rattle.book.specs.declared.kept.Kept.{Kept}
-use Rattle.book.specs.declared.event.Reply.{Reply as Answer}
-use Rattle.book.specs.declared.event.Reply.TheVariants as answer
-use Rattle.book.specs.Events.{reply_of}
-use Rattle.book.specs.Replies.{IsAlwaysOk, HandsOut}
+use Rattle.book_events.specs.declared.event.Reply.{Reply as Answer}
+use Rattle.book_events.specs.declared.event.Reply.TheVariants as answer
+use Rattle.book_events.specs.Events.{reply_of}
+use Rattle.book_events.specs.Replies.{IsAlwaysOk, HandsOut}
 use Rattle.book.specs.Passes.{PassOf, call_of, keeping, is_current, CalledWith}
 use Rattle.book.proofs.PassLemmas.{may_ask-current}
 use Rattle.live.specs.declared.history.Exchange.{Exchange}

@@ -10,10 +10,10 @@ use Rattle.machine.specs.declared.event.Cause.{Cause}
 use Rattle.block_store.specs.declared.device.Fault.{Fault}
 use Rattle.pages.specs.Tickets.{TicketOf}
 use Rattle.machine.specs.declared.event.Event.{Event}
-use Rattle.book.specs.declared.event.Event.TheVariants as event
-use Rattle.book.specs.declared.event.Reply.{Reply}
-use Rattle.book.specs.declared.event.Reply.TheVariants as said
-use Rattle.book.specs.Events.{event_of, reply_of}
+use Rattle.book_events.specs.declared.event.Event.TheVariants as event
+use Rattle.book_events.specs.declared.event.Reply.{Reply}
+use Rattle.book_events.specs.declared.event.Reply.TheVariants as said
+use Rattle.book_events.specs.Events.{event_of, reply_of}
 use Rattle.turns.specs.declared.turn.Access.{Access}
 use Rattle.turns.specs.declared.turn.Resume.{Resume}
 use Rattle.turns.specs.declared.turn.Resume.TheVariants as resume

@@ -6,8 +6,8 @@ use Rattle.machine.specs.declared.reply.Reply.{Reply}
 use Rattle.machine.specs.declared.reply.Reply.TheVariants as reply
 use Rattle.machine.specs.Call.{Past, took}
 use Rattle.machine.specs.declared.event.Event.{Event as Plain_event}
-use Rattle.book.specs.declared.event.Event.{Event}
-use Rattle.book.specs.declared.event.Event.TheVariants as event
+use Rattle.book_events.specs.declared.event.Event.{Event}
+use Rattle.book_events.specs.declared.event.Event.TheVariants as event
 use Rattle.turns.specs.declared.turn.Stage.{Stage}
 use Rattle.turns.specs.declared.turn.Stage.TheVariants as stage
 use Rattle.turns.specs.declared.turn.Want.{Want}

@@ -6,7 +6,8 @@ use Rattle.machine.specs.declared.command.Command.{Command}
 use Rattle.machine.specs.declared.command.Answer.{Answer}
 use Rattle.machine.specs.declared.command.Answer.TheVariants as answer
 use Rattle.machine.specs.declared.command.Reply.{Reply as Told_by}
-use Rattle.book.specs.declared.event.Event.{Event}
+use Rattle.machine.specs.State.{Opening}
+use Rattle.book_events.specs.declared.event.Event.{Event}
 use Rattle.turns.specs.declared.turn.Pending.{Pending}
 use Rattle.turns.specs.declared.turn.Stage.{Stage}
 use Rattle.turns.specs.declared.turn.Transition.{Transition}
@@ -64,11 +65,11 @@ pub record Ran (marks : Watermarks) (who : Actor) (start : Stage) (old new : Lis
   pub runs : Answered marks who start added said
 
 -- paths were looked up, and this became of the command
-pub record Looked (who : Actor) (what : Command) (old new : List Exchange) (judged : Judged) : Type 0 where
+pub record Looked (opening : Opening) (who : Actor) (what : Command) (old new : List Exchange) (judged : Judged) : Type 0 where
   pub found : List (Option ℕ)
   pub each : length found ≡ length (paths_of who what)
   pub keeps : new ≡ old ++ finds_of (paths_of who what) found
-  pub is : judged ≡ judged_with who what found
+  pub is : judged ≡ judged_with opening who what found
 
 pub record Judging (marks : Watermarks) (who : Actor) (judged : Judged) (old new : List Exchange) (told telling : List Told_by) : Type 0 where
   pub added : List Exchange
@@ -77,16 +78,16 @@ pub record Judging (marks : Watermarks) (who : Actor) (judged : Judged) (old new
   pub tells : telling ≡ told ++ said
   pub runs : JudgedRuns marks who judged added said
 
-pub record Did (marks : Watermarks) (who : Actor) (what : Command) (old new : List Exchange) (told telling : List Told_by) : Type 0 where
+pub record Did (opening : Opening) (who : Actor) (what : Command) (old new : List Exchange) (told telling : List Told_by) : Type 0 where
   pub added : List Exchange
   pub said : List Told_by
   pub keeps : new ≡ old ++ added
   pub tells : telling ≡ told ++ said
-  pub does : Does marks who what added said
+  pub does : Does opening who what added said
 
 -- the command was run once, and whatever it answered is dropped
-pub record Done (marks : Watermarks) (who : Actor) (what : Command) (old new : List Exchange) : Type 0 where
+pub record Done (opening : Opening) (who : Actor) (what : Command) (old new : List Exchange) : Type 0 where
   pub added : List Exchange
   pub said : List Told_by
   pub keeps : new ≡ old ++ added
-  pub does : Does marks who what added said
+  pub does : Does opening who what added said

@@ -9,11 +9,12 @@ use Rattle.machine.specs.declared.command.Word.TheVariants as word
 use Rattle.machine.specs.declared.command.Answer.{Answer}
 use Rattle.machine.specs.declared.command.Answer.TheVariants as answer
 use Rattle.machine.specs.declared.command.Reply.{Reply as Told_by}
+use Rattle.machine.specs.State.{Opening}
 use Rattle.block_store.specs.declared.device.Fault.{Fault}
 use Rattle.pages.specs.Tickets.{TicketOf}
-use Rattle.book.specs.declared.event.Event.{Event}
-use Rattle.book.specs.declared.event.Reply.{Reply}
-use Rattle.book.specs.Events.{event_of, reply_of}
+use Rattle.book_events.specs.declared.event.Event.{Event}
+use Rattle.book_events.specs.declared.event.Reply.{Reply}
+use Rattle.book_events.specs.Events.{event_of, reply_of}
 use Rattle.turns.specs.declared.turn.Access.{Access}
 use Rattle.turns.specs.declared.turn.Resume.{Resume}
 use Rattle.turns.specs.declared.turn.Pending.{Pending}
@@ -122,40 +123,40 @@ JudgedRuns marks who (Err why) added said = (added ≡ []) × (said ≡ answer_b
 JudgedRuns marks who (Ok stage) added said = Answered marks who stage added said
 
 -- its paths are looked up once, the rest is judged with what was found, and it runs. (Excludes a path that is looked up again.)
-pub record Begins (marks : Watermarks) (who : Actor) (what : Command) (added : List Exchange) (said : List Told_by) : Type 0 where
+pub record Begins (opening : Opening) (who : Actor) (what : Command) (added : List Exchange) (said : List Told_by) : Type 0 where
   pub found : List (Option ℕ)
   pub later : List Exchange
   pub each : length found ≡ length (paths_of who what)
-  pub runs : JudgedRuns marks who (judged_with who what found) later said
+  pub runs : JudgedRuns opening.watermarks who (judged_with opening who what found) later said
   pub keeps : added ≡ finds_of (paths_of who what) found ++ later
 
 -- one command; or memory for it is refused at once
-abbrev pub Does : Watermarks → Actor → Command → List Exchange → List Told_by → Type 0
-Does marks who what added said = Begins marks who what added said ⊎ ((added ≡ []) × (said ≡ answer_by who no_memory))
+abbrev pub Does : Opening → Actor → Command → List Exchange → List Told_by → Type 0
+Does opening who what added said = Begins opening who what added said ⊎ ((added ≡ []) × (said ≡ answer_by who no_memory))
 
 -- commands, one after another. (Excludes a worker that leaves one out.)
-abbrev pub Works : Watermarks → Actor → List Command → List Exchange → List Told_by → Type 0
-Works marks who [] added said = (added ≡ []) × (said ≡ [])
-Works marks who (what ∷ commands) added said =
+abbrev pub Works : Opening → Actor → List Command → List Exchange → List Told_by → Type 0
+Works opening who [] added said = (added ≡ []) × (said ≡ [])
+Works opening who (what ∷ commands) added said =
     (here : List Exchange) × (later : List Exchange) × (now : List Told_by) × (then : List Told_by)
-    × Does marks who what here now × Works marks who commands later then × (added ≡ here ++ later) × (said ≡ now ++ then)
+    × Does opening who what here now × Works opening who commands later then × (added ≡ here ++ later) × (said ≡ now ++ then)
 
 -- a run of one command, any number of times, whatever it answers; the newest first
-abbrev pub Repeats : Watermarks → Actor → Command → List (List Exchange) → List Exchange → Type 0
-Repeats marks who what [] added = added ≡ []
-Repeats marks who what (here ∷ row) added = (before : List Exchange) × (said : List Told_by) × Repeats marks who what row before × Does marks who what here said × (added ≡ before ++ here)
+abbrev pub Repeats : Opening → Actor → Command → List (List Exchange) → List Exchange → Type 0
+Repeats opening who what [] added = added ≡ []
+Repeats opening who what (here ∷ row) added = (before : List Exchange) × (said : List Told_by) × Repeats opening who what row before × Does opening who what here said × (added ≡ before ++ here)
 
 -- ---- what a worker's calls do
 
 -- the commands are answered so, and this is what they add to the pass
-pub record Worked (marks : Watermarks) (who : Actor) (commands : List Command) (old new : List Exchange) (said : List Told_by) : Type 0 where
+pub record Worked (opening : Opening) (who : Actor) (commands : List Command) (old new : List Exchange) (said : List Told_by) : Type 0 where
   pub added : List Exchange
   pub keeps : new ≡ old ++ added
-  pub works : Works marks who commands added said
+  pub works : Works opening who commands added said
 
 -- the command was run any number of times, and this is what that adds to the pass
-pub record Repeated (marks : Watermarks) (who : Actor) (what : Command) (old new : List Exchange) : Type 0 where
+pub record Repeated (opening : Opening) (who : Actor) (what : Command) (old new : List Exchange) : Type 0 where
   pub row : List (List Exchange)
   pub added : List Exchange
   pub keeps : new ≡ old ++ added
-  pub repeats : Repeats marks who what row added
+  pub repeats : Repeats opening who what row added

@@ -81,7 +81,7 @@ impl<L: Opened> Worker<L> {
 impl<L: Opened> Worker<L> {
     /// Runs its commands.
     pub fn work<D: SharedDevice, R: Wait>(&mut self, rt: &R, live: &Live<L, D>)
-        ensures { HasWorked L.opening.watermarks self.old self.new }
+        ensures { HasWorked L.opening self.old self.new }
     {
         self.answers = live.work(rt, &mut self.pass, self.actor, &self.commands);
     }
@@ -94,7 +94,7 @@ impl<L: Opened> Worker<L> {
         command: Command,
     ) -> Result<Vec<Reply>, Refusal>
         ensures actor { self.new.actor ≡ self.old.actor }
-        ensures answered { IfOk result (λ answers. HasAnswered L.opening.watermarks command self.old self.new answers.items) }
+        ensures answered { IfOk result (λ answers. HasAnswered L.opening command self.old self.new answers.items) }
         ensures err { IfErr result (λ cause. (cause ≡ Refusal.NoMemory) × (self.new.pass ≡ self.old.pass)) }
     {
         live.work(rt, &mut self.pass, self.actor, &[command])
@@ -107,7 +107,7 @@ fn each_works<L: Opened + Send + Sync, D: SharedDevice + Sync, R: Threads + Wait
     live: &Live<L, D>,
     workers: &mut [Worker<L>],
 )
-    ensures { HaveWorked L.opening.watermarks workers.old workers.new }
+    ensures { HaveWorked L.opening workers.old workers.new }
 {
     let count = workers.len();
     if count == 0 {
@@ -126,13 +126,13 @@ pub fn work_together<L: Opened + Send + Sync, D: SharedDevice + Sync, R: Threads
     workers: Vec<Worker<L>>,
     daemon: Pass<L>,
 ) -> (Vec<Worker<L>>, Pass<L>)
-    ensures workers { HaveWorked L.opening.watermarks workers.items result.0.items }
+    ensures workers { HaveWorked L.opening workers.items result.0.items }
     ensures count { length result.0.items ≡ length workers.items }
-    ensures daemon { Repeated L.opening.watermarks Actor.Daemon Command.Daemon daemon.exchanges result.1.exchanges }
+    ensures daemon { Repeated L.opening Actor.Daemon Command.Daemon daemon.exchanges result.1.exchanges }
     ensures rest { has_share daemon.kept ≡ false → has_share result.1.kept ≡ false }
 {
     let balance = move || -> Pass<L>
-        ensures works { Repeated L.opening.watermarks Actor.Daemon Command.Daemon daemon.exchanges result.exchanges }
+        ensures works { Repeated L.opening Actor.Daemon Command.Daemon daemon.exchanges result.exchanges }
         ensures rest { has_share daemon.kept ≡ false → has_share result.kept ≡ false }
     {
         let mut daemon = daemon;
@@ -140,7 +140,7 @@ pub fn work_together<L: Opened + Send + Sync, D: SharedDevice + Sync, R: Threads
         daemon
     };
     let labour = move || -> Vec<Worker<L>>
-        ensures workers { HaveWorked L.opening.watermarks workers.items result.items }
+        ensures workers { HaveWorked L.opening workers.items result.items }
         ensures count { length result.items ≡ length workers.items }
     {
         let mut workers = workers;

@@ -2,9 +2,9 @@
 
 ghost use Rattle.std.specs.Prelude.{◌≡◌, ◌<◌, ◌≤◌, ◌∷◌, [], map, OnOk, OnErr, IfOk, true, false};
 ghost use Rattle.machine.specs.Call.{leaves_entry};
-ghost use Rattle.book.specs.Events.{event_of, reply_of};
+ghost use Rattle.book_events.specs.Events.{event_of, reply_of};
 ghost use Rattle.book.specs.Passes.{CalledWith};
-ghost use Rattle.book.specs.Replies.{Replies, KeepsTicket, HandsOut};
+ghost use Rattle.book_events.specs.Replies.{Replies, KeepsTicket, HandsOut};
 ghost use Rattle.turns.specs.Tickets.{holds};
 ghost use Rattle.turns.specs.Turns.{paths_of};
 ghost use Rattle.live.specs.declared.history.Exchange.TheVariants.{Call};
@@ -22,12 +22,12 @@ use crate::history::{Asked, Front, Log, Paths};
 use crate::opened::Opened;
 use crate::report::EndedPass;
 use book::{Book, Event, Kept, Reply};
+use judging::judge::judge;
 use machine::command::{Actor, Command};
 use machine::refusal::Refusal;
 use std::alloc::{AllocError, Global};
 use std::marker::{Model, PhantomData};
 use turns::automaton::spend;
-use turns::judge::judge;
 use turns::turn::Stage;
 
 /// A worker's permission to ask the book that workers share. It keeps what the worker asked and what the book
@@ -215,7 +215,7 @@ impl<L: Opened> Pass<L> {
     ) -> Result<Result<Stage, Refusal>, AllocError>
         requires room { 2 ≤ self.old.room }
         requires of_these { log.old.table ≡ L.table }
-        ensures looked { IfOk result (λ judged. Looked actor command.now self.old.exchanges self.new.exchanges judged) }
+        ensures looked { IfOk result (λ judged. Looked book.now.state.opening actor command.now self.old.exchanges self.new.exchanges judged) }
         ensures share { OnOk result (Carries self.old.kept 0 self.new.kept 0) }
         ensures log { OnOk result (log.new ≡ record log.old { log = telling self.old.caller.worker (found_in book.now.state.tree (paths_of actor command.now)) log.old.log }) }
         ensures caller { self.new.caller ≡ self.old.caller }

@@ -5,8 +5,8 @@ ghost use Rattle.std.specs.List.{sum_by};
 ghost use Rattle.machine.specs.Call.{first_past};
 ghost use Rattle.machine.specs.History.{Honest, Right, Numbered, at_first};
 ghost use Rattle.machine.specs.Transfers.{transfers_begun, transfers_ended};
-ghost use Rattle.book.specs.Events.{event_of, reply_of};
-ghost use Rattle.book.specs.Replies.{Replies};
+ghost use Rattle.book_events.specs.Events.{event_of, reply_of};
+ghost use Rattle.book_events.specs.Replies.{Replies};
 ghost use Rattle.turns.specs.Tickets.{blocks_in, is_ending, OwnEvent, OwnReply, IsHanded, holds};
 ghost use Rattle.live.specs.Exchanges.{entries_in};
 ghost use Rattle.live.specs.Passes.{book_pass, answering};
@@ -176,7 +176,7 @@ impl<L: Opened> SharedBook<L> {
         command: &Command,
     ) -> Result<Result<Stage, Refusal>, AllocError>
         requires { 2 ≤ pass.old.room }
-        ensures looked { IfOk result (λ judged. Looked actor command.now pass.old.exchanges pass.new.exchanges judged) }
+        ensures looked { IfOk result (λ judged. Looked L.opening actor command.now pass.old.exchanges pass.new.exchanges judged) }
         ensures share { OnOk result (Carries pass.old.kept 0 pass.new.kept 0) }
         ensures caller { pass.new.caller ≡ pass.old.caller }
         ensures free { IfOk result (λ judged. IfOk judged (λ stage. holds stage ≡ false)) }

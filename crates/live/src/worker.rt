@@ -1,8 +1,8 @@
 //! The loop of a worker: one command after another, one turn after another.
 
 ghost use Rattle.std.specs.Prelude.{◌≡◌, ℕ, ◌+◌, ◌<◌, ◌≤◌, ◌++◌, [], true, false, length, IfOk, IfErr, OnOk, OnErr, IfSome, IfNone, vec_len, vec_capacity};
-ghost use Rattle.book.specs.Events.{event_of, reply_of};
-ghost use Rattle.book.specs.Replies.{Replies};
+ghost use Rattle.book_events.specs.Events.{event_of, reply_of};
+ghost use Rattle.book_events.specs.Replies.{Replies};
 ghost use Rattle.turns.specs.Turns.{AwaitsAll, resumes_at, answer_by};
 ghost use Rattle.turns.specs.Tickets.{blocks_in, is_ending, holds, holds_after, IsOwn, OwnEvent, OwnReply, OwnStage, OwnTransition, IsHanded};
 ghost use Rattle.live.specs.Passes.{answering};
@@ -18,12 +18,12 @@ use crate::opened::Opened;
 use crate::pass::Pass;
 use block_store::SharedDevice;
 use book::{Event, InTicket, OutTicket, Reply};
+use judging::judge::judge_task;
 use machine::command::{Actor, Answer, Command, Reply as Told, Word};
 use machine::refusal::Refusal;
 use std::alloc::AllocError;
 use std::sync::Wait;
 use turns::automaton::{ask, holds, let_go, resumes_at, told};
-use turns::judge::judge_task;
 use turns::turn::{Access, Pending, Resume, Stage, Transition, Want};
 
 fn out_of_memory(actor: Actor) -> Told
@@ -303,7 +303,7 @@ impl<L: Opened, D: SharedDevice> Live<L, D> {
         actor: Actor,
         command: &Command,
     ) -> Result<Result<Stage, Refusal>, AllocError>
-        ensures looked { IfOk result (λ judged. Looked actor command.now pass.old.exchanges pass.new.exchanges judged) }
+        ensures looked { IfOk result (λ judged. Looked L.opening actor command.now pass.old.exchanges pass.new.exchanges judged) }
         ensures free { IfOk result (λ judged. IfOk judged (λ stage. holds stage ≡ false)) }
         ensures caller { pass.new.caller ≡ pass.old.caller }
         ensures share { OnOk result (Carries pass.old.kept 0 pass.new.kept 0) }
@@ -357,7 +357,7 @@ impl<L: Opened, D: SharedDevice> Live<L, D> {
         spare: usize,
     )
         requires space { vec_len answers.old + spare < vec_capacity answers.old }
-        ensures did { Did L.opening.watermarks actor command.now pass.old.exchanges pass.new.exchanges answers.old.items answers.new.items }
+        ensures did { Did L.opening actor command.now pass.old.exchanges pass.new.exchanges answers.old.items answers.new.items }
         ensures caller { pass.new.caller ≡ pass.old.caller }
         ensures left { vec_len answers.new + spare ≤ vec_capacity answers.new }
         ensures share { Carries pass.old.kept 0 pass.new.kept 0 }
@@ -381,7 +381,7 @@ impl<L: Opened, D: SharedDevice> Live<L, D> {
         actor: Actor,
         commands: &[Command],
     ) -> Result<Vec<Told>, Refusal>
-        ensures works { IfOk result (λ answers. Worked L.opening.watermarks actor commands.now pass.old.exchanges pass.new.exchanges answers.items) }
+        ensures works { IfOk result (λ answers. Worked L.opening actor commands.now pass.old.exchanges pass.new.exchanges answers.items) }
         ensures share { KeepsShare pass.old.kept pass.new.kept }
         ensures known { OnOk result (strange pass.new.kept ≡ 0) }
         ensures rest { has_share pass.old.kept ≡ false → has_share pass.new.kept ≡ false }
@@ -413,7 +413,7 @@ impl<L: Opened, D: SharedDevice> Live<L, D> {
         n: u32,
         commands: &[Command],
     ) -> Result<Vec<Told>, Refusal>
-        ensures works { IfOk result (λ answers. Worked L.opening.watermarks (Actor.Task n) commands.now pass.old.exchanges pass.new.exchanges answers.items) }
+        ensures works { IfOk result (λ answers. Worked L.opening (Actor.Task n) commands.now pass.old.exchanges pass.new.exchanges answers.items) }
         ensures share { KeepsShare pass.old.kept pass.new.kept }
         ensures known { OnOk result (strange pass.new.kept ≡ 0) }
         ensures rest { has_share pass.old.kept ≡ false → has_share pass.new.kept ≡ false }
@@ -430,7 +430,7 @@ impl<L: Opened, D: SharedDevice> Live<L, D> {
         pass: &mut Pass<L>,
         commands: &[Command],
     ) -> Result<Vec<Told>, Refusal>
-        ensures works { IfOk result (λ answers. Worked L.opening.watermarks Actor.Control commands.now pass.old.exchanges pass.new.exchanges answers.items) }
+        ensures works { IfOk result (λ answers. Worked L.opening Actor.Control commands.now pass.old.exchanges pass.new.exchanges answers.items) }
         ensures share { KeepsShare pass.old.kept pass.new.kept }
         ensures known { OnOk result (strange pass.new.kept ≡ 0) }
         ensures rest { has_share pass.old.kept ≡ false → has_share pass.new.kept ≡ false }
@@ -443,7 +443,7 @@ impl<L: Opened, D: SharedDevice> Live<L, D> {
     /// Runs the daemon's command when free frames are below the low watermark, and not again until they have
     /// reached it. Runs it once more after [`Live::stop`] (kernel: `kswapd`).
     pub fn daemon<R: Wait>(&self, rt: &R, pass: &mut Pass<L>)
-        ensures works { Repeated L.opening.watermarks Actor.Daemon Command.Daemon pass.old.exchanges pass.new.exchanges }
+        ensures works { Repeated L.opening Actor.Daemon Command.Daemon pass.old.exchanges pass.new.exchanges }
         ensures share { KeepsShare pass.old.kept pass.new.kept }
         ensures known { strange pass.new.kept ≡ 0 }
         ensures rest { has_share pass.old.kept ≡ false → has_share pass.new.kept ≡ false }
@@ -472,7 +472,7 @@ impl<L: Opened, D: SharedDevice> Live<L, D> {
 
     /// One run of the daemon's command.
     fn balance<R: Wait>(&self, rt: &R, pass: &mut Pass<L>)
-        ensures done { Done L.opening.watermarks Actor.Daemon Command.Daemon pass.old.exchanges pass.new.exchanges }
+        ensures done { Done L.opening Actor.Daemon Command.Daemon pass.old.exchanges pass.new.exchanges }
         ensures caller { pass.new.caller ≡ pass.old.caller }
         ensures share { Carries pass.old.kept 0 pass.new.kept 0 }
     {

@@ -4,7 +4,7 @@ use Rattle.std.proofs.lemmas.Bool.{cases_Bool, or_cases, or_left, or_right, fals
 use Rattle.machine.specs.declared.record.Kind.{Kind}
 use Rattle.machine.specs.declared.record.Kind.TheVariants.{Anon, File}
 use Rattle.machine.specs.Generations.{Listed, Row, Gens, of_kind, row_of, on_row, entered, without, added, isolated, has_page, is_listed, kind_of, IsRow, IsGens, AreDistinct}
-use Rattle.machine.proofs.ListedLemmas.{distinct-front, distinct-back, distinct-apart, distinct-append}
+use Rattle.page_lists.proofs.ListedLemmas.{distinct-front, distinct-back, distinct-apart, distinct-append}
 
 pub anon_is_no_file : Anon ≢ File
 anon_is_no_file same = cc

@@ -7,7 +7,7 @@ use Rattle.machine.specs.declared.record.Kind.{Kind}
 use Rattle.machine.specs.declared.record.Kind.TheVariants.{Anon, File}
 use Rattle.machine.specs.declared.id.PageId.{PageId}
 use Rattle.machine.specs.Generations.{Listed, has_page, after_in}
-use Rattle.machine.proofs.ListedLemmas.{has_page-append}
+use Rattle.page_lists.proofs.ListedLemmas.{has_page-append}
 use Rattle.rings.specs.declared.ring_node.Link.{Link}
 use Rattle.rings.specs.declared.ring_node.ListId.{ListId}
 use Rattle.rings.specs.declared.ring_node.RingNode.TheVariants.{Head}

@@ -6,7 +6,7 @@ use Rattle.std.proofs.lemmas.Bool.{cases_eq, cases_lt, or_cases, or_left, or_rig
 use Rattle.machine.specs.declared.record.Kind.{Kind}
 use Rattle.machine.specs.declared.record.Kind.TheVariants.{Anon, File}
 use Rattle.machine.specs.Generations.{Listed, Gens, new_gens, gens_at, has_page, is_listed, is_listed_in, IsRising, AreDistinct, IsRow, IsGens, AreGens}
-use Rattle.machine.proofs.ListedLemmas.{each-append, has_page-append, distinct-append}
+use Rattle.page_lists.proofs.ListedLemmas.{each-append, has_page-append, distinct-append}
 use Rattle.rings.specs.Rings.{list_at, has, AreApart}
 use Rattle.rings.specs.Rings as of_rings
 use Rattle.rings.proofs.ListLemmas.{listed_from, listed_in, list_within}

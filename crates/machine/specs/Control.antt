@@ -1,9 +1,12 @@
 -- Control files: their names, who has them, amounts and texts (admin-guide/cgroup-v2, "Memory Interface Files", "Conventions").
-use Rattle.std.specs.Prelude.{ℕ, ◌*◌, ◌/◌, ◌-◌, ◌^◌, ◌==◌, ◌&&◌, ◌||◌, nat_lt, not, Bool, true, if◌then◌else◌, List, [], ◌∷◌, ◌++◌, length, take, slice_index, codes, decimal, Option, Some, None}
+use Rattle.std.specs.Prelude.{ℕ, ◌*◌, ◌/◌, ◌-◌, ◌^◌, ◌==◌, ◌&&◌, ◌||◌, nat_lt, nat_eq, not, Bool, true, if◌then◌else◌, List, [], ◌∷◌, ◌++◌, length, take, drop, slice_index, codes, decimal, Option, Some, None}
+use Rattle.std.specs.List.{list_all, starts_with}
 use Rattle.std.specs.Str.{bytes_eq}
 use Rattle.std.specs.Str.Parse.{digits_value}
 use Rattle.machine.specs.declared.amount.Amount.{Amount}
 use Rattle.machine.specs.declared.amount.Amount.TheVariants.{Max, Pages}
+use Rattle.machine.specs.declared.config.Placement.{Placement}
+use Rattle.machine.specs.declared.config.Placement.TheVariants.{Own, Linux}
 use Rattle.machine.specs.declared.control.ControlFile.{ControlFile}
 use Rattle.machine.specs.declared.control.ControlFile.TheVariants as file
 use Rattle.machine.specs.declared.record.Guard.TheVariants as guard
@@ -51,12 +54,37 @@ amount_of text =
 
 -- ---- flags
 
--- `0` or `1`, and no other text. (The kernel reads other spellings of these numbers too.)
+-- `0` or `1`, and no other text
 abbrev pub flag_of : List ℕ → Option OomGroup
 flag_of text =
     if bytes_eq text (codes "0") then Some Single
     else if bytes_eq text (codes "1") then Some Whole
     else None
+
+-- zeros, and behind them `0` or `1`: these digits mean zero or one in each base. (Excludes 010, which is eight.)
+abbrev pub flag_in_digits : List ℕ → Option OomGroup
+flag_in_digits digits = if list_all (λ c. c == 48) (take (length digits - 1) digits) then flag_of (drop (length digits - 1) digits) else None
+
+-- the text without the mark of base 16 in front
+abbrev pub without_base : List ℕ → List ℕ
+without_base text = if starts_with nat_eq text (codes "0x") || starts_with nat_eq text (codes "0X") then drop 2 text else text
+
+-- zero has a minus sign, and one has not
+abbrev pub negated : Option OomGroup → Option OomGroup
+negated (Some Single) = Some Single
+negated flag = None
+
+-- a number that is zero or one, as the kernel reads it: behind one sign at most, in base 16 or not, with zeros in front (kstrtoint). (Excludes a second sign, -1, and a letter behind the digits.)
+abbrev pub flag_spelled : List ℕ → Option OomGroup
+flag_spelled text =
+    if starts_with nat_eq text (codes "-") then negated (flag_in_digits (without_base (drop 1 text)))
+    else if starts_with nat_eq text (codes "+") then flag_in_digits (without_base (drop 1 text))
+    else flag_in_digits (without_base text)
+
+-- the flag that a text writes: by our own placement `0` or `1`, and by Linux's any spelling of these. (Excludes a spelling that our own placement takes.)
+abbrev pub flag_written : Placement → List ℕ → Option OomGroup
+flag_written Own text = flag_of text
+flag_written Linux text = flag_spelled text
 
 -- ---- texts
 

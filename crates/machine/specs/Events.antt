@@ -25,11 +25,11 @@ took_for (event.ReclaimOne g) reply.Dropped = Some g.0
 took_for what answer = None
 
 -- what an event that takes no page and is answered so counts, in this state: a refused charge `max` at the group without room; a kill `oom` at the group that wanted room and `oom_kill` at that of the
--- killed task; a kill of a group what it counts for each of its tasks and for the group; and a kill that finds no task `oom` alone. (Excludes a kill that is counted twice, or at the limit alone.)
+-- killed task; a kill of a group what it counts for each of its tasks and for the group; and a kill that finds no task `oom` alone. (Excludes a task's kill that is counted twice, or at the limit alone.)
 abbrev pub counts_named : State → Event → Reply → List Counted
 counts_named old (event.Access t place op) (reply.Over g) = count_of g.0 key.Max ∷ []
 counts_named old (event.Relieve cause) (reply.KilledTask t) = count_of (target_of cause) key.Oom ∷ count_of (group_of_task old.tasks t.0) key.OomKill ∷ []
-counts_named old (event.Relieve cause) (reply.KilledAll victim h tasks) = counts_of_group_kill old.tree old.tasks (target_of cause) h.0
+counts_named old (event.Relieve cause) (reply.KilledAll victim h tasks) = counts_of_group_kill old.opening.placement old.tree old.tasks (target_of cause) victim.0 h.0
 counts_named old (event.Relieve cause) reply.NoVictim = count_of (target_of cause) key.Oom ∷ []
 counts_named old what answer = []
 

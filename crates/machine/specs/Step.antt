@@ -238,7 +238,7 @@ KillStep old limit (reply.KilledAll victim h tasks) new =
     IsVictim old.tree old.tasks old.page_tables limit (Some victim.0)
     × (kill_group_of old.tree old.flags old.tasks limit victim.0 ≡ Some h.0)
     × (tasks ≡ killed_with old.tree old.tasks h.0)
-    × EndsTasks old (is_candidate old.tree old.tasks h.0) Killed (with_events old.counted (counts_of_group_kill old.tree old.tasks limit h.0)) new
+    × EndsTasks old (is_candidate old.tree old.tasks h.0) Killed (with_events old.counted (counts_of_group_kill old.opening.placement old.tree old.tasks limit victim.0 h.0)) new
 KillStep old limit reply.NoVictim new =
     IsVictim old.tree old.tasks old.page_tables limit None × (new ≡ record old { counted = with_event old.counted limit key.Oom })
 KillStep old limit answer new = ⊥

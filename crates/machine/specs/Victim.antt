@@ -2,6 +2,8 @@
 -- mem_cgroup_get_oom_group).
 use Rattle.std.specs.Prelude.{◌≡◌, ℕ, ◌==◌, ◌&&◌, ◌||◌, nat_lt, Bool, true, false, List, [], ◌∷◌, ◌++◌, map, filter, slice_index_or, Option, Some, None}
 use Rattle.std.specs.List.{last_or}
+use Rattle.machine.specs.declared.config.Placement.{Placement}
+use Rattle.machine.specs.declared.config.Placement.TheVariants.{Own, Linux}
 use Rattle.machine.specs.declared.record.Key.TheVariants as key
 use Rattle.machine.specs.declared.record.OomGroup.{OomGroup}
 use Rattle.machine.specs.declared.record.OomGroup.TheVariants.{Single, Whole}
@@ -73,7 +75,13 @@ killed_with tree tasks h = count_there (is_live_under tree h) tasks
 abbrev pub counts_of_killed : List Node → Tasks → ℕ → List Counted
 counts_of_killed tree tasks h = map (λ slot. count_of (group_of slot) key.OomKill) (filter (there_and (is_live_under tree h)) tasks)
 
--- what is counted where the group h is killed for room under the limit: that there was none at the limit, each task at its own group, and the kill of the group at h. (Excludes a group's kill that is
--- counted at the limit or for each task, and tasks that are counted at h, or as one.)
-abbrev pub counts_of_group_kill : List Node → Tasks → ℕ → ℕ → List Counted
-counts_of_group_kill tree tasks limit h = count_of limit key.Oom ∷ (counts_of_killed tree tasks h ++ count_of h key.OomGroupKill ∷ [])
+-- by Linux's placement the victim is counted before that, too, at its own group: the kernel kills it alone, and then once more as one of the group's tasks
+abbrev pub counts_of_victim : Placement → Tasks → ℕ → List Counted
+counts_of_victim Own tasks victim = []
+counts_of_victim Linux tasks victim = count_of (group_of_task tasks victim) key.OomKill ∷ []
+
+-- what is counted where the group h is killed with the victim for room under the limit: that there was none at the limit, each task at its own group, and the kill of the group at h. (Excludes a group's
+-- kill that is counted at the limit or for each task, and tasks that are counted at h, or as one.)
+abbrev pub counts_of_group_kill : Placement → List Node → Tasks → ℕ → ℕ → ℕ → List Counted
+counts_of_group_kill placement tree tasks limit victim h =
+    count_of limit key.Oom ∷ (counts_of_victim placement tasks victim ++ (counts_of_killed tree tasks h ++ count_of h key.OomGroupKill ∷ []))

@@ -1,12 +1,14 @@
 //! What the opening of a run determines.
 
 ghost use Rattle.std.specs.Prelude.{◌≡◌, ◌++◌, ◌∷◌, [], OnOk, OnErr};
-ghost use Rattle.machine.specs.Order.{heeds_age};
+ghost use Rattle.machine.specs.Lists.{hits_to_mark};
+ghost use Rattle.machine.specs.Order.{heeds_age, takes_parts};
 ghost use Rattle.machine.specs.State.{are_watermarks, is_sized};
 
 use crate::event::Goal;
 use crate::id::GroupId;
 use crate::limit::{MOST_ENTRIES, MOST_FRAMES, MOST_SWAP};
+use crate::record::Kind;
 use crate::text::Text;
 use std::alloc::{AllocError, Global};
 use std::marker::Model;
@@ -79,8 +81,8 @@ impl FileList {
     }
 }
 
-/// Which generation list a page enters when it is read in, whether the access that read it in marks it, and which groups
-/// a reclaim asks first. Under both rules, memory that a task makes or copies enters the youngest generation. So does a
+/// Which generation list a page enters when it is read in, how many accesses mark a page, and which groups a reclaim asks
+/// first. Under both rules, memory that a task makes or copies enters the youngest generation. So does a
 /// page that could not be written out.
 #[derive(Clone, Copy, Debug, PartialEq, Eq)]
 pub enum Placement {
@@ -88,9 +90,9 @@ pub enum Placement {
     /// reclaim asks all groups by turns.
     Own,
     /// Linux's rule (kernel: `lru_gen_add_folio`): memory that comes from swap enters the youngest generation. A page
-    /// of a file enters the second oldest, unless that is one of the two youngest; then it enters the oldest. An
-    /// access to a file doesn't mark a page that it read in. A reclaim for one page, or of the root, first asks the
-    /// groups with an old page of a file.
+    /// of a file enters the second oldest, unless that is one of the two youngest; then it enters the oldest. The
+    /// fifth access marks a page of a file, and the one that reads it in is the first (kernel: `folio_inc_refs`). A
+    /// reclaim for one page, or of the root, first asks the groups with an old page of a file.
     Linux,
 }
 
@@ -102,6 +104,26 @@ impl Placement {
         match self {
             Placement::Own => false,
             Placement::Linux => goal == Goal::OnePage || target == GroupId::ROOT,
+        }
+    }
+
+    /// Whether a reclaim takes of each group a part, and not a page of each in turn.
+    pub fn takes_parts(self, goal: Goal) -> bool
+        ensures { result ≡ takes_parts self goal }
+    {
+        match (self, goal) {
+            (Placement::Linux, Goal::Amount) => true,
+            (Placement::Linux, Goal::OnePage) | (Placement::Own, _) => false,
+        }
+    }
+
+    /// How many hits mark a page of this type as accessed. By Linux's rule a read-in is a page's first.
+    pub fn hits_to_mark(self, kind: Kind) -> u32
+        ensures { result ≡ hits_to_mark self kind }
+    {
+        match (self, kind) {
+            (Placement::Linux, Kind::File) => 5,
+            (Placement::Own, _) | (Placement::Linux, Kind::Anon) => 1,
         }
     }
 }

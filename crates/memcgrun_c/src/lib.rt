@@ -1,11 +1,11 @@
-//! The calls of [`embedding`] for programs in other languages. A call takes a script or a scenario, and puts its answers
-//! and messages into buffers of the caller.
+//! The calls of [`embedding`] and [`embedded_exploration`] for programs in other languages. A call takes a script or a
+//! scenario, and puts its answers and messages into buffers of the caller.
 //!
 //! These calls are not for users: `library/memcgrun.h` declares what users call, and `library/memcgrun.c` makes
 //! these calls for them. That file owes them what no contract can ask of C. No pointer is null, no memory overlaps
 //! another, each length is below 2^63, and each `bool` is 0 or 1.
 //!
-//! Each function has the clauses of the function of `embedding` that it calls. The comments there explain them.
+//! Each function has the clauses of the function that it calls. The comments there explain them.
 #![tactic(auto)]
 
 ghost use Rattle.std.specs.Prelude.{◌≡◌, ◌≢◌, ◌⊎◌, ℕ, ◌<◌, ◌≤◌, false, true, List, [], length, codes, IsUtf8, IsOk, Some};
@@ -20,13 +20,16 @@ ghost use Rattle.subcommands.specs.Scripts.{PrintsScript, PrintsPart, EndsScript
 ghost use Rattle.subcommands.specs.Charted.{ListsScript};
 ghost use Rattle.explore.specs.declared.report.Verdict.{Verdict};
 ghost use Rattle.explore.specs.Explores.{Explores};
-ghost use Rattle.embedding.specs.Exploring.{exploration_of, IsWhole, IsPart, IsReasoned};
-ghost use Rattle.embedding.specs.declared.status.TheConstants.{OK, BAD_SCRIPT, NO_MEMORY, REFUSED, DIFFERS, BAD_OPTIONS};
-ghost use Rattle.embedding.specs.Buffers.{Gives};
-ghost use Rattle.embedding.specs.Calls.{placement_of, options_of, chart_options_of, IsUnsound, Tells, TellsPart, TellsPartNamed};
+ghost use Rattle.call_buffers.specs.declared.status.TheConstants.{OK, BAD_SCRIPT, NO_MEMORY, REFUSED, DIFFERS, BAD_OPTIONS};
+ghost use Rattle.call_buffers.specs.Buffers.{Gives};
+ghost use Rattle.call_buffers.specs.Calls.{placement_of, IsUnsound, Tells, TellsPart, TellsPartNamed};
+ghost use Rattle.embedded_exploration.specs.Exploring.{exploration_of, IsWhole, IsPart, IsReasoned};
+ghost use Rattle.embedding.specs.Asked.{options_of, chart_options_of};
 ghost use Rattle.embedding.specs.Scenarios.{IsUnsoundScenario};
 
-use embedding::{Asked, ExploreAsked, Lengths, ScenarioAsked};
+use call_buffers::Lengths;
+use embedded_exploration::ExploreAsked;
+use embedding::{Asked, ScenarioAsked};
 use std::alloc::Global;
 
 /// Runs a script over a new device, as `memcgrun schedule` does, and returns its answers.
@@ -185,5 +188,5 @@ pub extern "C" fn memcgrun_proved_explore(
     ensures out { (bytes : List ℕ) × Gives out.old out.new lengths.new.out bytes }
     ensures err { (bytes : List ℕ) × Gives err.old err.new lengths.new.err bytes }
 {
-    embedding::explore(alloc, script, asked, out, err, lengths)
+    embedded_exploration::explore(alloc, script, asked, out, err, lengths)
 }

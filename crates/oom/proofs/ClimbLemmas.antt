@@ -5,7 +5,7 @@ use Rattle.machine.specs.Tree.{Node, node_at, IsTree, under_at}
 use Rattle.machine.specs.Victim.{is_flagged, kill_group}
 use Rattle.machine.proofs.Values.{unlike}
 use Rattle.machine.proofs.TreeLemmas.{under_at-None}
-use Rattle.machine.proofs.KillGroupLemmas.{last_flagged, last-step, chain_to-own, chain_to-step, above_parent}
+use Rattle.oom.proofs.KillGroupLemmas.{last_flagged, last-step, chain_to-own, chain_to-step, above_parent}
 use Rattle.oom.specs.Climb.{chain_on, Climbs}
 
 module _ (tree : List Node) (is : IsTree tree) (flags : List OomGroup) (limit : ℕ) where

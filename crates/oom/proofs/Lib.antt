@@ -1,2 +1,3 @@
 pub mod WorstLemmas
+pub mod KillGroupLemmas
 pub mod ClimbLemmas

@@ -9,8 +9,8 @@ use Rattle.machine.specs.Tasks.{PageTables, mapped_at, mappers, Shows}
 use Rattle.machine.specs.State.{State}
 use Rattle.machine.specs.Lists.{Youngest, ListsHeld, AreGenerations}
 use Rattle.machine.specs.Step.{still}
-use Rattle.machine.proofs.HeldChanges.{goes-on-then}
-use Rattle.machine.proofs.HeldLemmas.{goes-still}
+use Rattle.page_lists.proofs.HeldChanges.{goes-on-then}
+use Rattle.page_lists.proofs.HeldLemmas.{goes-still}
 use Rattle.machine.proofs.TreeLemmas.{eq_cases}
 use Rattle.machine.proofs.MappingLemmas.{mapped_at-mappers, mappers-shows}
 use Rattle.page_state.specs.Mapped.{AreMapped, is_settled}

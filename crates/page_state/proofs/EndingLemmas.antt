@@ -20,7 +20,7 @@ use Rattle.page_state.specs.Parts.{Stays, Settles, DropsUnmapped}
 use Rattle.page_state.specs.Changes.{ended_as, EndsTransfer}
 use Rattle.page_state.specs.Joined.{joined_of, IsJoined}
 use Rattle.page_state.proofs.MappedLemmas.{mapped-ended, settled-then}
-use Rattle.machine.proofs.HeldChanges.{goes-on-then}
+use Rattle.page_lists.proofs.HeldChanges.{goes-on-then}
 use Rattle.page_state.proofs.DropLemmas.{still-stays}
 use Rattle.page_state.proofs.PartsLemmas.{stays-then}
 use Rattle.page_state.proofs.AccessLemmas.{tables-same}

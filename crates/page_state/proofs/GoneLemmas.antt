@@ -12,6 +12,7 @@ use Rattle.machine.specs.Refusals.{first_cause, rmdir_refusal}
 use Rattle.machine.specs.State.{State}
 use Rattle.machine.specs.Step.{regrouped}
 use Rattle.machine.specs.Generations.{handed_over}
+use Rattle.machine.specs.Order.{Cursor, no_cursor}
 use Rattle.machine.specs.Lists.{Order}
 use Rattle.machine.proofs.Values.{unlike}
 use Rattle.machine.proofs.TreeLemmas.{under_at-None, under_at-step}
@@ -100,7 +101,7 @@ none_was g parent (Some page) e = let wrong : Some (regrouped g parent page) ≡
 
 module _ (s : Inside) (is : IsJoined s) (g parent : ℕ) (may : MayGo (joined_of s).tables g) (pages : PagesOf) (counters : Counts) (held : HeldOf) (agree : PartsAgree (record (s.parts) { pages = pages; counters = counters; held = held }))
     (handed : (p : ℕ) → page_at pages.pages p ≡ option_map (regrouped g parent) (page_at s.parts.pages.pages p)) (others : pages ≡ record (s.parts.pages) { pages = pages.pages; bytes = pages.bytes }) (kin : counters.tree ≡ without_group s.parts.counters.tree g)
-    (cursors : CursorsOf) (served : cursors.cursors ≡ slice_set s.cursors.cursors g None) (events : EventTable) (counted : events.tree ≡ without_group s.events.tree g) (tree : List Node) (fewer : tree ≡ without_group s.tree g) where
+    (cursors : CursorsOf) (served : cursors.cursors ≡ slice_set s.cursors.cursors g no_cursor) (events : EventTable) (counted : events.tree ≡ without_group s.events.tree g) (tree : List Node) (fewer : tree ≡ without_group s.tree g) where
   abbrev after : Inside
   after = record s { tree = tree; parts = record (s.parts) { pages = pages; counters = counters; held = held }; cursors = cursors; events = events }
 
@@ -126,12 +127,12 @@ module _ (s : Inside) (is : IsJoined s) (g parent : ℕ) (may : MayGo (joined_of
         homes = λ t alive. ap (λ (ns : List Node). is_live ns (group_of_task s.spaces.tasks t)) fewer
             ∙ ap (λ (n : Node). n.live) (without-other s.tree g (group_of_task s.spaces.tasks t) (elsewhere s.spaces.tasks g t may.taskless alive)) ∙ is.homes t alive;
         flagged = is.flagged ∙ sym (ap length fewer ∙ length-set s.tree g _);
-        cursors = ap length served ∙ length-set s.cursors.cursors g None ∙ is.cursors ∙ sym (ap length fewer ∙ length-set s.tree g _);
+        cursors = ap length served ∙ length-set s.cursors.cursors g no_cursor ∙ is.cursors ∙ sym (ap length fewer ∙ length-set s.tree g _);
         populated = is.populated ∙ sym (ap length fewer ∙ length-set s.tree g _);
       }
 
   pub removes-group : (node_at s.tree g).parent ≡ Some parent → counters.limits ≡ s.parts.counters.limits → ((q o : ℕ) → byte_in pages.bytes q o ≡ byte_in s.parts.pages.bytes q o)
-      → held ≡ record (s.parts.held) { lists = record { groups = handed_over g parent s.parts.held.lists.groups; marks = s.parts.held.lists.marks } } → events.counted ≡ s.events.counted → RemovesGroup (joined_of s) (joined_of after) g
+      → held ≡ record (s.parts.held) { lists = record { groups = handed_over g parent s.parts.held.lists.groups; marks = s.parts.held.lists.marks; hits = s.parts.held.lists.hits } } → events.counted ≡ s.events.counted → RemovesGroup (joined_of s) (joined_of after) g
   removes-group below limits bytes takes same =
       let old : StateOf = joined_of s in
       record {
@@ -142,7 +143,7 @@ module _ (s : Inside) (is : IsJoined s) (g parent : ℕ) (may : MayGo (joined_of
             ∙ ap (λ (ls : List Limits). record (old.tables) { tree = without_group s.tree g; limits = ls; pages = pages.pages; counted = events.counted }) limits
             ∙ ap (λ (cs : List EventCounts). record (old.tables) { tree = without_group s.tree g; limits = s.parts.counters.limits; pages = pages.pages; counted = cs }) same;
         order = ap (λ (x : HeldOf). let o : Order = record { held = x.lists; cursors = cursors.cursors } in o) takes
-            ∙ ap (λ (cs : List (Option ℕ)). let o : Order = record { held = record { groups = handed_over g parent s.parts.held.lists.groups; marks = s.parts.held.lists.marks }; cursors = cs } in o) served;
+            ∙ ap (λ (cs : List Cursor). let o : Order = record { held = record { groups = handed_over g parent s.parts.held.lists.groups; marks = s.parts.held.lists.marks; hits = s.parts.held.lists.hits }; cursors = cs } in o) served;
         bytes = bytes;
         flights = ap (λ (t : PagesOf). t.flights) others;
       }

@@ -10,7 +10,8 @@ use Rattle.std.proofs.lemmas.Bool.Decides.{nat_tests}
 use Rattle.std.proofs.lemmas.List.{length-append}
 use Rattle.machine.specs.Tasks.{lives, group_of_task}
 use Rattle.machine.specs.Step.{new_node}
-use Rattle.machine.proofs.CursorLemmas.{cursors-push}
+use Rattle.machine.specs.Order.{no_cursor}
+use Rattle.page_lists.proofs.CursorLemmas.{cursors-push}
 use Rattle.files.specs.Files.{FilesOf}
 use Rattle.group_tree.specs.Flags.{FlagsOf}
 use Rattle.group_tree.specs.Kin.{AreKin}
@@ -83,7 +84,7 @@ pub joined-group : (s : Inside) → IsJoined s → (path : List ℕ) (parent : �
     → (tree : List Node) (flags : FlagsOf) (h : Parts) (cursors : CursorsOf) (events : EventTable) (room : ℕ) → tree ≡ s.tree ++ new_node s.tree path ∷ [] → flags.flags ≡ s.flags.flags ++ Single ∷ []
     → PartsAgree h → h.counters.tree ≡ s.parts.counters.tree ++ bare (Some parent) ∷ [] → events.tree ≡ s.events.tree ++ bare (Some parent) ∷ []
     → h.pages.pages ≡ s.parts.pages.pages → h.pool.frames ≡ s.parts.pool.frames → h.slots.blocks ≡ s.parts.slots.blocks → h.pages.numbers ≡ s.parts.pages.numbers → h.pages.files ≡ s.parts.pages.files
-    → cursors.cursors ≡ s.cursors.cursors ++ None ∷ [] → IsJoined (record s { tree = tree; flags = flags; parts = h; cursors = cursors; events = events; spaces = record (s.spaces) { groups = s.spaces.groups + 1; room = room } })
+    → cursors.cursors ≡ s.cursors.cursors ++ no_cursor ∷ [] → IsJoined (record s { tree = tree; flags = flags; parts = h; cursors = cursors; events = events; spaces = record (s.spaces) { groups = s.spaces.groups + 1; room = room } })
 joined-group s is path parent found tree flags h cursors events room more flags_more agree kin counted pages frames swap numbers files numbered =
     record {
       sized = is.sized;

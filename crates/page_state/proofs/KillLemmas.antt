@@ -14,7 +14,7 @@ use Rattle.machine.specs.Tree.{Node}
 use Rattle.machine.specs.Pages.{page_at}
 use Rattle.machine.specs.Tasks.{Tasks, is_live_life, task_at, task_of, group_of, group_of_task, mapped_at, mappers, lives}
 use Rattle.machine.specs.Counts.{Counted, count_of, with_event, with_events}
-use Rattle.machine.specs.Victim.{is_live_under, is_candidate, killed_with, counts_of_killed, counts_of_group_kill}
+use Rattle.machine.specs.Victim.{is_live_under, is_candidate, killed_with, counts_of_killed, counts_of_victim, counts_of_group_kill}
 use Rattle.machine.specs.State.{State}
 use Rattle.machine.specs.Lists.{Youngest, ListsHeld, AreGenerations}
 use Rattle.machine.proofs.Values.{unlike}
@@ -50,7 +50,7 @@ killed-more tree (slot ∷ tasks) h (suc n) =
     by_test true more rest last e = ap (λ (cs : List Counted). count_of (group_of slot) key.OomKill ∷ cs) e
     by_test false more rest last e = e
 
-pub counts-none : (s : StateOf) (h : ℕ) → AreAtMost s.tables (2 ^ 63 + 1) → CountsBelow s s h 0 0
+pub counts-none : (s : StateOf) (h : ℕ) → AreAtMost s.tables (2 ^ 63 + 2) → CountsBelow s s h 0 0
 counts-none s h most = record { counts = refl; many = refl; few = omega arith; most = λ k. let le = most k in omega (arith, le) }
 
 pub counts-more : (old mid new : StateOf) (h n tasks one : ℕ) → CountsBelow old mid h n tasks
@@ -63,7 +63,7 @@ counts-more old mid new h n tasks one first is counts most =
           ∙ ap (λ (cs : List EventCounts). record old { tables = record (old.tables) { counted = cs } }) (sym (with_events-append old.tables.counted (counts_of_killed old.tables.tree (take n old.tables.tasks) h) _) ∙ ap (with_events old.tables.counted) (sym killed));
       many = (let more = counted in let here = is_one in let many = first.many in omega (arith, more, here, many));
       few = (let few = first.few in let le = one-le (is_candidate mid.tables.tree mid.tables.tasks h n) in omega (arith, few, le, is));
-      most = λ k. let le = most (2 ^ 63 + 1 + n) first.most k in omega (arith, le);
+      most = λ k. let le = most (2 ^ 63 + 2 + n) first.most k in omega (arith, le);
     }
   where
     next : suc n ≡ n + 1
@@ -100,13 +100,17 @@ counts-all old new h n tasks within all = (
     whole : take n old.tables.tasks ≡ old.tables.tasks
     whole = take-all old.tables.tasks n within
 
--- what is counted at the limit first, and at the group last
-pub counts-group : (old first mid new : StateOf) (limit h : ℕ) → first ≡ counts_event old limit key.Oom → mid ≡ counts_events first (counts_of_killed first.tables.tree first.tables.tasks h) → new ≡ counts_event mid h key.OomGroupKill
-    → new ≡ counts_events old (counts_of_group_kill old.tables.tree old.tables.tasks limit h)
-counts-group old first mid new limit h oom kills group =
-    group ∙ ap (λ (s : StateOf). counts_event s h key.OomGroupKill) (kills ∙ ap (λ (s : StateOf). counts_events s (counts_of_killed s.tables.tree s.tables.tasks h)) oom)
+-- what is counted at the limit first, for the victim then, and at the group last
+pub counts-group : (old first second mid new : StateOf) (limit victim h : ℕ) → first ≡ counts_event old limit key.Oom → second ≡ counts_events first (counts_of_victim first.tables.opening.placement first.tables.tasks victim)
+    → mid ≡ counts_events second (counts_of_killed second.tables.tree second.tables.tasks h) → new ≡ counts_event mid h key.OomGroupKill
+    → new ≡ counts_events old (counts_of_group_kill old.tables.opening.placement old.tables.tree old.tables.tasks limit victim h)
+counts-group old first second mid new limit victim h oom again kills group =
+    group ∙ ap (λ (s : StateOf). counts_event s h key.OomGroupKill) (kills ∙ ap (λ (s : StateOf). counts_events s (counts_of_killed s.tables.tree s.tables.tasks h)) twice)
     ∙ ap (λ (cs : List EventCounts). record old { tables = record (old.tables) { counted = cs } })
-    (sym (with_events-append (with_event old.tables.counted limit key.Oom) (counts_of_killed old.tables.tree old.tables.tasks h) (count_of h key.OomGroupKill ∷ [])))
+    (sym (with_events-append (with_event old.tables.counted limit key.Oom) (counts_of_victim old.tables.opening.placement old.tables.tasks victim) ((counts_of_killed old.tables.tree old.tables.tasks h) ++ (count_of h key.OomGroupKill ∷ [])) ∙ with_events-append (with_events (with_event old.tables.counted limit key.Oom) (counts_of_victim old.tables.opening.placement old.tables.tasks victim)) (counts_of_killed old.tables.tree old.tables.tasks h) (count_of h key.OomGroupKill ∷ [])))
+  where
+    twice : second ≡ counts_events (counts_event old limit key.Oom) (counts_of_victim old.tables.opening.placement old.tables.tasks victim)
+    twice = again ∙ ap (λ (s : StateOf). counts_events s (counts_of_victim s.tables.opening.placement s.tables.tasks victim)) oom
 
 -- ---- ends
 

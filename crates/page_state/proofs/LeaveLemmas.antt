@@ -6,13 +6,13 @@ use Rattle.machine.specs.declared.event.Goal.{Goal}
 use Rattle.machine.specs.Slots.{there_and}
 use Rattle.machine.specs.Pages.{Content, Memory, OfFile, Page, Held, Going, page_at, home_block, is_anon, is_held, is_held_in, used_swap}
 use Rattle.machine.specs.Reclaim.{is_next}
-use Rattle.machine.proofs.TakeableLemmas.{next-takeable}
+use Rattle.page_lists.proofs.TakeableLemmas.{next-takeable}
 use Rattle.machine.specs.Generations.{is_listed, gens_at}
-use Rattle.machine.specs.Lists.{Youngest, AreGenerations, GoesOn, PicksOf, TakesNext, served}
+use Rattle.machine.specs.Lists.{Youngest, AreGenerations, GoesOn, PicksOf, TakesNext, served, cursor_served}
 use Rattle.machine.specs.State.{is_swap_free}
 use Rattle.machine.proofs.Values.{some_inj}
-use Rattle.machine.proofs.CursorLemmas.{cursors-set}
-use Rattle.machine.proofs.HeldLemmas.{goes-max}
+use Rattle.page_lists.proofs.CursorLemmas.{cursors-set}
+use Rattle.page_lists.proofs.HeldLemmas.{goes-max}
 use Rattle.pages.specs.declared.way.WayOut.TheVariants as way
 use Rattle.pages.specs.Tickets.{TicketOf}
 use Rattle.pages.specs.PagesOf.{Label, labelled, of_file, HasResidence, way_of}
@@ -92,7 +92,7 @@ module _ (s : Inside) (is : IsJoined s) (sound : AreGenerations s.parts.held.lis
       less used config blocks free same = grind (arith, nat_tests, free, same)
 
   -- it is taken of its list, and the target's cursor names the group
-  module _ (now : Parts) (agree : PartsAgree now) (stays : Stays searched now) (cursors : CursorsOf) (moves : cursors.cursors ≡ slice_set s.cursors.cursors target (Some g)) where
+  module _ (now : Parts) (agree : PartsAgree now) (stays : Stays searched now) (cursors : CursorsOf) (moves : cursors.cursors ≡ slice_set s.cursors.cursors target (cursor_served (joined_of s).tables (joined_of s).order goal target g)) where
     abbrev after : Inside
     after = record s { parts = now; cursors = cursors }
 
@@ -114,7 +114,7 @@ module _ (s : Inside) (is : IsJoined s) (sound : AreGenerations s.parts.held.lis
         stays
 
     joined_after : AreMapped now.pages.pages s.spaces.page_tables → IsJoined after
-    joined_after mapped = joined-pages s is now cursors s.spaces agree stays_all mapped refl refl is.homes (cursors-set s.cursors.cursors cursors.cursors target g moves)
+    joined_after mapped = joined-pages s is now cursors s.spaces agree stays_all mapped refl refl is.homes (cursors-set s.cursors.cursors cursors.cursors target _ moves)
 
     module _ (held : GoesOn Youngest s.parts.pages.pages looked.lists now.pages.pages now.held.lists) where
       next : is_held_in now.pages.pages p ≡ false → TakesNext (joined_of s).tables (joined_of s).order goal target (joined_of after).tables (joined_of after).order
@@ -123,7 +123,7 @@ module _ (s : Inside) (is : IsJoined s) (sound : AreGenerations s.parts.held.lis
       ages : (h : ℕ) → (gens_at now.held.lists.groups h).max_seq ≤ (gens_at s.parts.held.lists.groups h).max_seq + 3
       ages h = subst (λ (n : ℕ). n ≤ (gens_at s.parts.held.lists.groups h).max_seq + 3) (sym (goes-max Youngest s.parts.pages.pages now.pages.pages looked.lists now.held.lists held h)) (picks.ages h)
 
-  module _ (now : Parts) (agree : PartsAgree now) (cursors : CursorsOf) (moves : cursors.cursors ≡ slice_set s.cursors.cursors target (Some g)) where
+  module _ (now : Parts) (agree : PartsAgree now) (cursors : CursorsOf) (moves : cursors.cursors ≡ slice_set s.cursors.cursors target (cursor_served (joined_of s).tables (joined_of s).order goal target g)) where
     -- it begins to be written out
     module _ (ticket : TicketOf) (out : BeginsOut searched now p picks.label picks.frame ticket) where
       goes-to : (content : Content) (dirty : Bool) → GoesTo searched content dirty ticket.block → IsWrittenTo (joined_of s).tables content dirty ticket.block

@@ -8,6 +8,7 @@ pub mod SpareLemmas
 pub mod SettleLemmas
 pub mod ReleaseLemmas
 pub mod NextLemmas
+pub mod TurnLemmas
 pub mod KinLemmas
 pub mod EventLemmas
 pub mod TransferLemmas

@@ -1,16 +1,20 @@
--- Marks that come by frame, place by place of their word.
+-- Hits that come by frame, place by place of their word.
 use Rattle.std.proofs.Common.{◌≡◌, ◌≢◌, ℕ, ◌+◌, ◌*◌, ◌/◌, ◌%◌, ◌^◌, ◌<◌, ◌≤◌, ◌==◌, ◌&&◌, ◌||◌, Bool, true, false, length, Option, Some, None, inl, inr, eq-eqb, refl, sym, ap, ◌∙◌, subst, arith}
-use Rattle.std.specs.Prelude.{◌⊎◌, nat_lt, slice_set}
+use Rattle.std.specs.Prelude.{◌⊎◌, nat_lt, option_map}
 use Rattle.std.specs.Int.{bit_at, trailing_zeros, w64}
 use Rattle.std.proofs.Math.Nat.{lt-div-mul-add}
 use Rattle.std.proofs.lemmas.Nat.{pow_pos}
 use Rattle.std.proofs.lemmas.Nat.Bits.{bit_at-zero, bit_at-trailing_zeros, bit_at_above}
-use Rattle.std.proofs.lemmas.Bool.{ne_eqb, cases_lt}
+use Rattle.std.proofs.lemmas.Bool.{ne_eqb, cases_lt, true≢false}
 use Rattle.std.proofs.lemmas.Bool.Decides.{nat_tests, eqb_tells}
+use Rattle.machine.specs.declared.config.Placement.{Placement}
+use Rattle.machine.specs.declared.id.PageId.{PageId}
+use Rattle.machine.specs.declared.record.Kind.{Kind}
 use Rattle.machine.specs.Slots.{there_and}
 use Rattle.machine.specs.Pages.{Residence, Held, Coming, Going, Away, Page, Pages, page_at, frame_at, is_held_at, is_number}
-use Rattle.machine.specs.Lists.{HeldLists, has_bit, is_in_bits_at, is_in_bits, MarksThose, MergesMarks}
-use Rattle.machine.proofs.MergeLemmas.{marks-none, marks-one, marks-more, marks-alike}
+use Rattle.machine.specs.Lists.{HeldLists, kind_at, has_bit, is_in_bits_at, is_in_bits, HitsThose, MergesMarks}
+use Rattle.page_lists.proofs.MergeLemmas.{hits-none, hits-one, hits-more, hits-alike}
+use Rattle.held_pages.specs.Held.{hit}
 use Rattle.pages.specs.PagesOf.{is_held_frame}
 use Rattle.page_state.specs.Merging.{has_place, is_at_place, has_place_below, is_below_place}
 
@@ -115,57 +119,83 @@ place-set word bits place within bit page = set_at word bits place within bit pa
 
 -- ---- all places, one after another
 
--- there is none below the first bit
-pub merges-none : (word bits : ℕ) (pages : Pages) (held : HeldLists) → bits < 2 ^ 64 → MarksThose (is_below_place word bits (trailing_zeros w64 bits)) pages held held
-merges-none word bits pages held within = marks-none (is_below_place word bits (trailing_zeros w64 bits)) pages held (λ p. of_slot (page_at pages p))
-  where
-    clear : (i : ℕ) → i < trailing_zeros w64 bits → bit_at bits i ≡ 0
-    clear i lt =
-        elim (cases_lt 0 bits) [
-          | inl some ↦ (bit_at-trailing_zeros w64 bits some within).2 i lt
-          | inr none ↦ (let zero : bits ≡ 0 = omega (arith, none) in ap (λ (n : ℕ). bit_at n i) zero ∙ bit_at-zero i)
-        ]
-
-    of_slot : (slot : Option Page) → there_and (is_below_place word bits (trailing_zeros w64 bits)) slot ≡ false
-    of_slot None = refl
-    of_slot (Some page) = below_clear word bits (trailing_zeros w64 bits) clear page.residence
-
-pub merges-more : (word bits n : ℕ) (pages : Pages) (held held' held'' : HeldLists) → MarksThose (is_below_place word bits n) pages held held' → MarksThose (is_at_place word bits n) pages held' held''
-    → MarksThose (is_below_place word bits (n + 1)) pages held held''
-merges-more word bits n pages held held' held'' = marks-more (is_below_place word bits n) (is_at_place word bits n) (is_below_place word bits (n + 1)) pages held held' held'' (λ page. place-more_at word bits n page.residence)
-
 -- what is nothing without its lowest places has no others
 below_pow : (n k : ℕ) → n / 2 ^ k ≡ 0 → n < 2 ^ k
 below_pow n k none = let lt : n < 0 * 2 ^ k + 2 ^ k = subst (λ (q : ℕ). n < q * 2 ^ k + 2 ^ k) none (lt-div-mul-add (pow_pos k)) in omega (arith, lt)
 
--- those behind the last bit are none
-pub merges-rest : (word bits place : ℕ) (pages : Pages) (held held' : HeldLists) → bits / 2 ^ place ≡ 0 → MarksThose (is_below_place word bits place) pages held held' → MergesMarks pages word bits held held'
-merges-rest word bits place pages held held' none =
-    marks-alike (is_below_place word bits place) (is_in_bits word bits) pages held held' (λ page. above_clear word bits place (λ i le. bit_at_above bits place i (below_pow bits place none) le) page.residence)
+-- one place before another is not that one
+not_both : (b : Bool) (m n : ℕ) → (b && nat_lt m n) ≡ true → (b && (m == n)) ≡ false
+not_both true m n below = grind (arith, nat_tests, below)
+not_both false m n below = refl
 
-pub merges-all : (word bits : ℕ) (pages : Pages) (held held' : HeldLists) → MarksThose (is_below_place word bits 64) pages held held' → MergesMarks pages word bits held held'
-merges-all word bits pages held held' = marks-alike (is_below_place word bits 64) (is_in_bits word bits) pages held held' (λ page. place-all_at word bits page.residence)
+apart_at : (word bits n : ℕ) (r : Residence) → has_place_below word bits n r ≡ true → has_place word bits n r ≡ false
+apart_at word bits n (Held frame) below = not_both (has_bit word bits frame) (frame % 64) n below
+apart_at word bits n (Coming frame block ticket) below = refl
+apart_at word bits n (Going frame block ticket) below = refl
+apart_at word bits n (Away block) below = refl
 
--- the frame at one place has this holder, or none
-pub merges-one : (word bits place : ℕ) (pages : Pages) (held : HeldLists) (q : ℕ) → place < 64 → bit_at bits place ≡ 1 → q < length held.marks → ((p : ℕ) → is_number (Some q) p ≡ there_and (is_held_frame (word * 64 + place)) (page_at pages p))
-    → MarksThose (is_at_place word bits place) pages held (record { groups = held.groups; marks = slice_set held.marks q true })
-merges-one word bits place pages held q within bit small alone = marks-one (is_at_place word bits place) pages held q small (λ p. alone p ∙ sym (of_slot (page_at pages p)))
+module _ (placement : Placement) (word bits : ℕ) (pages : Pages) where
+  -- there is none below the first bit
+  pub merges-none : (held : HeldLists) → bits < 2 ^ 64 → HitsThose placement (is_below_place word bits (trailing_zeros w64 bits)) pages held held
+  merges-none held within = hits-none placement pages (is_below_place word bits (trailing_zeros w64 bits)) held (λ p. of_slot (page_at pages p))
+    where
+      clear : (i : ℕ) → i < trailing_zeros w64 bits → bit_at bits i ≡ 0
+      clear i lt =
+          elim (cases_lt 0 bits) [
+            | inl some ↦ (bit_at-trailing_zeros w64 bits some within).2 i lt
+            | inr none ↦ (let zero : bits ≡ 0 = omega (arith, none) in ap (λ (n : ℕ). bit_at n i) zero ∙ bit_at-zero i)
+          ]
+
+      of_slot : (slot : Option Page) → there_and (is_below_place word bits (trailing_zeros w64 bits)) slot ≡ false
+      of_slot None = refl
+      of_slot (Some page) = below_clear word bits (trailing_zeros w64 bits) clear page.residence
+
+  pub merges-more : (n : ℕ) (held held' held'' : HeldLists) → HitsThose placement (is_below_place word bits n) pages held held' → HitsThose placement (is_at_place word bits n) pages held' held''
+      → HitsThose placement (is_below_place word bits (n + 1)) pages held held''
+  merges-more n held held' held'' =
+      hits-more placement pages (is_below_place word bits n) (is_at_place word bits n) (is_below_place word bits (n + 1)) held held' held'' (λ page. place-more_at word bits n page.residence) (λ page. apart_at word bits n page.residence)
+
+  -- those behind the last bit are none
+  pub merges-rest : (place : ℕ) (held held' : HeldLists) → bits / 2 ^ place ≡ 0 → HitsThose placement (is_below_place word bits place) pages held held' → MergesMarks placement pages word bits held held'
+  merges-rest place held held' none =
+      hits-alike placement pages (is_below_place word bits place) (is_in_bits word bits) held held' (λ page. above_clear word bits place (λ i le. bit_at_above bits place i (below_pow bits place none) le) page.residence)
+
+  pub merges-all : (held held' : HeldLists) → HitsThose placement (is_below_place word bits 64) pages held held' → MergesMarks placement pages word bits held held'
+  merges-all held held' = hits-alike placement pages (is_below_place word bits 64) (is_in_bits word bits) held held' (λ page. place-all_at word bits page.residence)
+
+  -- the frame at one place has this holder, or none
+  pub merges-one : (place : ℕ) (held : HeldLists) (q : ℕ) (page : Page) → place < 64 → bit_at bits place ≡ 1 → q < length held.marks → q < length held.hits → page_at pages q ≡ Some page
+      → ((p : ℕ) → is_number (Some q) p ≡ there_and (is_held_frame (word * 64 + place)) (page_at pages p)) → HitsThose placement (is_at_place word bits place) pages held (hit held placement (kind_at page.content) q)
+  merges-one place held q page within bit small counts there alone = hits-one placement pages (is_at_place word bits place) held q page small counts there (λ p. alone p ∙ sym (of_slot (page_at pages p)))
+    where
+      of_slot : (slot : Option Page) → there_and (is_at_place word bits place) slot ≡ there_and (is_held_frame (word * 64 + place)) slot
+      of_slot None = refl
+      of_slot (Some other) = place-set word bits place within bit other
+
+  pub merges-unheld : (place : ℕ) (held : HeldLists) → place < 64 → bit_at bits place ≡ 1 → ((p : ℕ) → is_number None p ≡ there_and (is_held_frame (word * 64 + place)) (page_at pages p)) → HitsThose placement (is_at_place word bits place) pages held held
+  merges-unheld place held within bit alone = hits-none placement pages (is_at_place word bits place) held (λ p. of_slot (page_at pages p) ∙ sym (alone p))
+    where
+      of_slot : (slot : Option Page) → there_and (is_at_place word bits place) slot ≡ there_and (is_held_frame (word * 64 + place)) slot
+      of_slot None = refl
+      of_slot (Some page) = place-set word bits place within bit page
+
+  pub merges-clear : (place : ℕ) (held : HeldLists) → bit_at bits place ≡ 0 → HitsThose placement (is_at_place word bits place) pages held held
+  merges-clear place held clear = hits-none placement pages (is_at_place word bits place) held (λ p. of_slot (page_at pages p))
+    where
+      of_slot : (slot : Option Page) → there_and (is_at_place word bits place) slot ≡ false
+      of_slot None = refl
+      of_slot (Some page) = place-clear word bits place clear page
+
+-- the holder of a frame is the only one
+pub holder-alone : (test : Page → Bool) (pages : Pages) (found : Option PageId) (page : PageId) → found ≡ Some page → ((p : ℕ) → is_number (option_map (λ (x : PageId). x.0) found) p ≡ there_and test (page_at pages p))
+    → (p : ℕ) → is_number (Some page.0) p ≡ there_and test (page_at pages p)
+holder-alone test pages found page is alone p = ap (λ (x : Option PageId). is_number (option_map (λ (y : PageId). y.0) x) p) (sym is) ∙ alone p
+
+-- the holder of a frame is there, with its type
+pub holder-there : (frame q : ℕ) (pages : Pages) (kind : Option Kind) → kind ≡ option_map (λ page. kind_at page.content) (page_at pages q) → ((p : ℕ) → is_number (Some q) p ≡ there_and (is_held_frame frame) (page_at pages p))
+    → (page : Page) × (page_at pages q ≡ Some page) × (kind ≡ Some (kind_at page.content))
+holder-there frame q pages kind is alone = by_slot (page_at pages q) refl
   where
-    of_slot : (slot : Option Page) → there_and (is_at_place word bits place) slot ≡ there_and (is_held_frame (word * 64 + place)) slot
-    of_slot None = refl
-    of_slot (Some page) = place-set word bits place within bit page
-
-pub merges-unheld : (word bits place : ℕ) (pages : Pages) (held : HeldLists) → place < 64 → bit_at bits place ≡ 1 → ((p : ℕ) → is_number None p ≡ there_and (is_held_frame (word * 64 + place)) (page_at pages p))
-    → MarksThose (is_at_place word bits place) pages held held
-merges-unheld word bits place pages held within bit alone = marks-none (is_at_place word bits place) pages held (λ p. of_slot (page_at pages p) ∙ sym (alone p))
-  where
-    of_slot : (slot : Option Page) → there_and (is_at_place word bits place) slot ≡ there_and (is_held_frame (word * 64 + place)) slot
-    of_slot None = refl
-    of_slot (Some page) = place-set word bits place within bit page
-
-pub merges-clear : (word bits place : ℕ) (pages : Pages) (held : HeldLists) → bit_at bits place ≡ 0 → MarksThose (is_at_place word bits place) pages held held
-merges-clear word bits place pages held clear = marks-none (is_at_place word bits place) pages held (λ p. of_slot (page_at pages p))
-  where
-    of_slot : (slot : Option Page) → there_and (is_at_place word bits place) slot ≡ false
-    of_slot None = refl
-    of_slot (Some page) = place-clear word bits place clear page
+    by_slot : (slot : Option Page) → page_at pages q ≡ slot → (page : Page) × (page_at pages q ≡ Some page) × (kind ≡ Some (kind_at page.content))
+    by_slot None there = absurd (true≢false (sym (eq-eqb q q refl) ∙ alone q ∙ ap (there_and (is_held_frame frame)) there))
+    by_slot (Some page) there = (page, there, is ∙ ap (option_map (λ (x : Page). kind_at x.content)) there)

@@ -1,15 +1,14 @@
 -- Which pages a reclaim may take, and which group gives the next, by the lists of held pages and by the table of pages.
 use Rattle.std.proofs.Common.{◌≡◌, ◌≢◌, inl, inr, ℕ, suc, ◌<◌, ◌≤◌, ◌==◌, ◌&&◌, ◌||◌, not, Bool, true, false, cond, List, [], ◌∷◌, length, get_or, Option, Some, None, refl, sym, ap, ◌∙◌, arith}
-use Rattle.std.specs.Prelude.{IfSome, IfNone, is_some, find, option_map}
+use Rattle.std.specs.Prelude.{IfSome, find}
 use Rattle.std.specs.List.{All, list_any}
-use Rattle.std.proofs.lemmas.Bool.{cases_Bool, and_parts, and_from, and_right, or_right}
+use Rattle.std.proofs.lemmas.Bool.{cases_Bool, and_parts, and_from, and_right}
 use Rattle.std.proofs.lemmas.Bool.Decides.{nat_tests}
 use Rattle.std.proofs.lemmas.List.Elements.{All-head, All-tail}
 use Rattle.std.proofs.lemmas.List.Folds.{list_any_at}
 use Rattle.std.specs.Option.{option_or}
 use Rattle.machine.specs.declared.amount.Amount.{Amount}
 use Rattle.machine.specs.declared.event.Goal.{Goal}
-use Rattle.machine.specs.declared.id.GroupId.{GroupId}
 use Rattle.machine.specs.declared.id.PageId.{PageId}
 use Rattle.machine.specs.Amounts.{exceeds}
 use Rattle.machine.specs.Slots.{there_and, any_there}
@@ -18,16 +17,16 @@ use Rattle.machine.specs.Pages.{Held, Page, Pages, page_at, is_anon, is_held, is
 use Rattle.machine.specs.declared.record.Guard.{Guard}
 use Rattle.machine.specs.declared.record.Guard.TheVariants.{Min, Low}
 use Rattle.machine.specs.Protection.{effective, setting_of, is_beyond}
-use Rattle.machine.specs.Order.{heeds_age, asking_order, served_by, served_first, cursor_at}
+use Rattle.machine.specs.Order.{Cursor, heeds_age, takes_parts, asking_order, served_by, served_first, cursor_at}
 use Rattle.machine.specs.declared.record.Kind.{Kind}
 use Rattle.machine.specs.declared.record.Kind.TheVariants.{Anon, File}
 use Rattle.machine.specs.Generations.{Listed, Gens, row_of, has_page, is_listed, gens_at}
 use Rattle.machine.specs.Aging.{is_marked}
 use Rattle.machine.specs.Eviction.{is_nil, has_usable, has_old_file}
-use Rattle.machine.specs.Lists.{HeldLists, ListsHeld, AreGenerations, Order, PicksOf, is_held_of, is_next_of, seen_of, gives, gives_old, served}
+use Rattle.machine.specs.Lists.{HeldLists, ListsHeld, AreGenerations, Order, PicksOf, is_held_of, seen_of, gives, gives_old, served, hits_at}
 use Rattle.machine.proofs.SlotLemmas.{any_there-none, count_there-none}
 use Rattle.machine.proofs.TreeLemmas.{eq_cases}
-use Rattle.machine.proofs.HeldChanges.{unheld-unlisted}
+use Rattle.page_lists.proofs.HeldChanges.{unheld-unlisted}
 use Rattle.group_tree.specs.Groups.{IsGroupTree}
 use Rattle.group_tree.proofs.LineageLemmas.{live-within}
 use Rattle.page_counter.specs.Counts.{usage_of}
@@ -39,7 +38,8 @@ use Rattle.page_state.specs.declared.joined.State.TheInside.{Inside}
 use Rattle.page_state.specs.Joined.{joined_of, IsJoined}
 use Rattle.machine.specs.State.{State, is_swap_free}
 use Rattle.machine.specs.Reclaim.{is_beyond_its, is_unprotected, is_above_low, is_takeable, has_takeable, is_open, has_open, is_next}
-use Rattle.machine.proofs.TakeableLemmas.{next-takeable, next-open, takeable-goes, takeable-unprotected, takeable-below, takeable-held}
+use Rattle.page_lists.proofs.GiverLemmas.{one_passes, any_more, any_both, any_same, is_usable, may_give, usable_given}
+use Rattle.page_lists.proofs.TakeableLemmas.{takeable-below}
 use Rattle.counts.specs.Numbers.{times}
 use Rattle.page_state.specs.Queue.{numbers_of}
 use Rattle.held_pages.specs.Held.{KeepsRows}
@@ -61,15 +61,6 @@ module _ {X : Type 0} where
         | false ↦ λ is. refl
       ] refl
 
-  -- one that passes is among them
-  one_passes : {Q : Type 0} (P : X → Type 0) (f : X → Bool) (xs : List X) → All P xs → list_any f xs ≡ true → ((x : X) → P x → f x ≡ true → Q) → Q
-  one_passes P f [] all some use_it = absurd cc
-  one_passes {Q} P f (x ∷ xs) all some use_it = by_test (one_passes P f xs (All-tail P x xs all)) (f x) refl some
-    where
-      by_test : (list_any f xs ≡ true → ((y : X) → P y → f y ≡ true → Q) → Q) → (b : Bool) → f x ≡ b → (b || list_any f xs) ≡ true → Q
-      by_test rest true is e = use_it x (All-head P x xs all) is
-      by_test rest false is e = rest e use_it
-
   find_agree : (f h : X → Bool) (xs : List X) → All (λ x. f x ≡ h x) xs → find f xs ≡ find h xs
   find_agree f h [] same = refl
   find_agree f h (x ∷ xs) same =
@@ -79,34 +70,7 @@ module _ {X : Type 0} where
   option_or-agree : {a b c d : Option X} → a ≡ c → b ≡ d → option_or a b ≡ option_or c d
   option_or-agree {a} {b} {c} {d} e k = ap (λ x. option_or x b) e ∙ ap (option_or c) k
 
-  -- what passes one test passes another
-  any_more : (f h : X → Bool) (xs : List X) → ((x : X) → f x ≡ true → h x ≡ true) → list_any f xs ≡ true → list_any h xs ≡ true
-  any_more f h [] more some = some
-  any_more f h (x ∷ xs) more some = by_test (any_more f h xs more) (f x) refl some
-    where
-      by_test : (list_any f xs ≡ true → list_any h xs ≡ true) → (b : Bool) → f x ≡ b → (b || list_any f xs) ≡ true → (h x || list_any h xs) ≡ true
-      by_test rest true is e = ap (λ c. c || list_any h xs) (more x is)
-      by_test rest false is e = ap (λ c. h x || c) (rest e) ∙ or_right (h x) true refl
-
 -- ---- tests over the table
-
--- one test is another and a condition
-any_both : (f h : Page → Bool) (b : Bool) (pages : Pages) → ((p : ℕ) → there_and h (page_at pages p) ≡ (b && there_and f (page_at pages p))) → any_there h pages ≡ (b && any_there f pages)
-any_both f h b [] same = sym (and_right b false refl)
-any_both f h b (slot ∷ pages) same = both (there_and f slot) (any_there f pages) (same 0) (any_both f h b pages (λ p. same (suc p)))
-  where
-    shared : (c x y : Bool) → ((c && x) || (c && y)) ≡ (c && (x || y))
-    shared true x y = refl
-    shared false x y = refl
-
-    both : (x y : Bool) → there_and h slot ≡ (b && x) → any_there h pages ≡ (b && y) → (there_and h slot || any_there h pages) ≡ (b && (x || y))
-    both x y p q = ap (λ c. c || any_there h pages) p ∙ ap (λ c. (b && x) || c) q ∙ shared b x y
-
--- a test of pages by their numbers is that of the numbers
-any_same : (f h : Page → Bool) (pages : Pages) → ((page : Page) → f page ≡ h page) → any_there f pages ≡ any_there h pages
-any_same f h [] same = refl
-any_same f h (None ∷ pages) same = any_same f h pages same
-any_same f h (Some page ∷ pages) same = ap (λ b. b || any_there f pages) (same page) ∙ ap (λ b. h page || b) (any_same f h pages same)
 
 pub any-numbers : (f : ℕ → Bool) (xs : List PageId) → list_any (λ (x : PageId). f x.0) xs ≡ list_any f (numbers_of xs)
 any-numbers f [] = refl
@@ -129,10 +93,6 @@ module _ (test : Page → Bool) (more : ℕ → Bool) (numbers : List ℕ) (page
       ] refl
 
 -- ---- what a group has on its lists
-
--- a page that is held, of the group, is usable where it is a page of a file, or a swap block is free
-abbrev pub is_usable : Bool → ℕ → Page → Bool
-is_usable free g page = is_held page && ((page.group == g) && (not (is_anon page.content) || free))
 
 -- one test of a place is that a first passes, or a condition and a second
 any_either : (f h k : Page → Bool) (b : Bool) (pages : Pages) → ((p : ℕ) → there_and k (page_at pages p) ≡ (there_and f (page_at pages p) || (b && there_and h (page_at pages p))))
@@ -216,7 +176,12 @@ module _ (pages : Pages) (held : HeldLists) (lists : ListsHeld pages held) where
 
   -- after a search the lists have the held pages still
   pub held-searched : (held' : HeldLists) → KeepsRows held held' → ListsHeld pages held'
-  held-searched held' keeps = record { rows = λ g kind p. keeps.rows g kind p ∙ lists.rows g kind p; marked = λ p marked. by_held p (is_held_in pages p) refl marked }
+  held-searched held' keeps =
+      record {
+        rows = λ g kind p. keeps.rows g kind p ∙ lists.rows g kind p;
+        marked = λ p marked. by_held p (is_held_in pages p) refl marked;
+        counted = λ p gone. ap (λ (ns : List ℕ). hits_at ns p) keeps.hits ∙ lists.counted p gone;
+      }
     where
       by_held : (p : ℕ) (b : Bool) → is_held_in pages p ≡ b → is_marked held'.marks p ≡ true → b ≡ true
       by_held p true is marked = refl
@@ -232,10 +197,10 @@ module _ (s : Inside) (is : IsJoined s) where
   tables = (joined_of s).tables
 
   -- what is counted is what is charged
-  usages : (a : ℕ) → a < length s.tree → usage_of s.parts.counters a ≡ charged s.tree s.parts.pages.pages a
+  pub usages : (a : ℕ) → a < length s.tree → usage_of s.parts.counters a ≡ charged s.tree s.parts.pages.pages a
   usages a lt = let len = is.held_kin.len in is.agree.kept.counted.counts a (omega (arith, len, lt)) ∙ kin-charged s.parts.counters.tree s.tree is.held_kin s.parts.pages.pages a
 
-  live_at : (p : ℕ) → IfSome (page_at s.parts.pages.pages p) (λ page. is_live s.tree page.group ≡ true)
+  pub live_at : (p : ℕ) → IfSome (page_at s.parts.pages.pages p) (λ page. is_live s.tree page.group ≡ true)
   live_at p = by_slot (page_at s.parts.pages.pages p) (is.agree.kept.counted.live p)
     where
       by_slot : (slot : Option Page) → IfSome slot (λ page. is_live s.parts.counters.tree page.group ≡ true) → IfSome slot (λ page. is_live s.tree page.group ≡ true)
@@ -252,7 +217,7 @@ module _ (s : Inside) (is : IsJoined s) where
     abbrev beyond : Guard → ℕ → Bool
     beyond guard g = is_beyond tables.opening.recursive s.tree (setting_of guard s.parts.counters.limits) (usage_of s.parts.counters) target g
 
-    beyond-same : (guard : Guard) (g : ℕ) → is_live s.tree g ≡ true → under s.tree target g ≡ true → is_beyond_its guard tables target g ≡ beyond guard g
+    pub beyond-same : (guard : Guard) (g : ℕ) → is_live s.tree g ≡ true → under s.tree target g ≡ true → is_beyond_its guard tables target g ≡ beyond guard g
     beyond-same guard g live below =
         elim (eq_cases g target) [
           | inl same ↦
@@ -296,7 +261,7 @@ module _ (s : Inside) (is : IsJoined s) where
     gives_in low_reclaim g = any_there (λ page. (page.group == g) && passes_in low_reclaim page) s.parts.pages.pages
 
     -- a group below the target gives one, by the table and by the lists
-    listed-same : (low_reclaim : Bool) (g : ℕ) → is_live s.tree g ≡ true → under s.tree target g ≡ true → gives_in low_reclaim g ≡ listed low_reclaim g
+    pub listed-same : (low_reclaim : Bool) (g : ℕ) → is_live s.tree g ≡ true → under s.tree target g ≡ true → gives_in low_reclaim g ≡ listed low_reclaim g
     listed-same low_reclaim g live below =
         any_both (is_usable free g) (λ page. (page.group == g) && passes_in low_reclaim page) (beyond Min g && (low_reclaim || beyond Low g)) s.parts.pages.pages (λ p. by_slot (page_at s.parts.pages.pages p))
         ∙ ap (λ b. (beyond Min g && (low_reclaim || beyond Low g)) && b) (sym (usable-held s.parts.pages.pages s.parts.held.lists is.agree.held free g))
@@ -384,14 +349,14 @@ module _ (s : Inside) (is : IsJoined s) where
         by_slot (Some page) e = (and_parts (is_takeable tables target page) _ e).0
 
     -- what the pass says of the group that it finds
-    pub record Found (heeds : Bool) (last : Option ℕ) (found : Served) : Type 0 where
-      pub turn : served_first heeds s.tree (listed_old found.low_reclaim) (listed found.low_reclaim) target last ≡ Some found.group.0
+    pub record Found (heeds parts : Bool) (last : Cursor) (found : Served) : Type 0 where
+      pub turn : served_first heeds parts s.tree (listed_old found.low_reclaim) (listed found.low_reclaim) target last ≡ Some found.group.0
       pub live : is_live s.tree found.group.0 ≡ true
       pub below : under s.tree target found.group.0 ≡ true
       pub given : listed found.low_reclaim found.group.0 ≡ true
       pub spared : found.low_reclaim ≡ true → NoneListed false
 
-    module _ (groups : IsGroupTree s.tree) (live : is_live s.tree target ≡ true) (heeds : Bool) (last : Option ℕ) (found : Served) (is_found : Found heeds last found) where
+    module _ (groups : IsGroupTree s.tree) (live : is_live s.tree target ≡ true) (heeds parts : Bool) (last : Cursor) (found : Served) (is_found : Found heeds parts last found) where
       -- it is the second one exactly where no page is open
       pub passes-low : found.low_reclaim ≡ not (has_open tables target)
       passes-low = by_pass found.low_reclaim is_found.spared (λ e. one_taken found.low_reclaim found.group.0 is_found.live is_found.below is_found.given) refl
@@ -401,25 +366,25 @@ module _ (s : Inside) (is : IsJoined s) where
           by_pass false spared given is = ap not (sym (sym first_pass ∙ ap (λ low. any_there (passes_in low) s.parts.pages.pages) (sym is) ∙ given is))
 
       -- each group that is asked gives a page by the table where it does by the lists
-      gives-listed : All (λ g. gives tables target g ≡ listed found.low_reclaim g) (asking_order s.tree target last)
+      gives-listed : All (λ g. gives tables target g ≡ listed found.low_reclaim g) (asking_order parts s.tree target last)
       gives-listed =
           λ k d lt.
-          let here = asked-order s.tree target last groups live k d lt in
-          ap (λ low. gives_in low (get_or (asking_order s.tree target last) k d)) (sym passes-low) ∙ listed-same found.low_reclaim (get_or (asking_order s.tree target last) k d) here.0 here.1
+          let here = asked-order s.tree target parts last groups live k d lt in
+          ap (λ low. gives_in low (get_or (asking_order parts s.tree target last) k d)) (sym passes-low) ∙ listed-same found.low_reclaim (get_or (asking_order parts s.tree target last) k d) here.0 here.1
 
       -- and the group is the one that the table tells
-      pub turn-is : served_first heeds s.tree (gives_old tables s.parts.held.lists target) (gives tables target) target last ≡ Some found.group.0
+      pub turn-is : served_first heeds parts s.tree (gives_old tables s.parts.held.lists target) (gives tables target) target last ≡ Some found.group.0
       turn-is = by_age heeds ∙ is_found.turn
         where
-          by_turns : served_by s.tree (gives tables target) target last ≡ served_by s.tree (listed found.low_reclaim) target last
-          by_turns = find_agree (gives tables target) (listed found.low_reclaim) (asking_order s.tree target last) gives-listed
+          by_turns : served_by parts s.tree (gives tables target) target last ≡ served_by parts s.tree (listed found.low_reclaim) target last
+          by_turns = find_agree (gives tables target) (listed found.low_reclaim) (asking_order parts s.tree target last) gives-listed
 
-          old_first : served_by s.tree (gives_old tables s.parts.held.lists target) target last ≡ served_by s.tree (listed_old found.low_reclaim) target last
+          old_first : served_by parts s.tree (gives_old tables s.parts.held.lists target) target last ≡ served_by parts s.tree (listed_old found.low_reclaim) target last
           old_first =
-              find_agree (gives_old tables s.parts.held.lists target) (listed_old found.low_reclaim) (asking_order s.tree target last)
-              (λ k d lt. ap (λ b. b && has_old_file (seen_of s.parts.held.lists (get_or (asking_order s.tree target last) k d))) (gives-listed k d lt))
+              find_agree (gives_old tables s.parts.held.lists target) (listed_old found.low_reclaim) (asking_order parts s.tree target last)
+              (λ k d lt. ap (λ b. b && has_old_file (seen_of s.parts.held.lists (get_or (asking_order parts s.tree target last) k d))) (gives-listed k d lt))
 
-          by_age : (b : Bool) → served_first b s.tree (gives_old tables s.parts.held.lists target) (gives tables target) target last ≡ served_first b s.tree (listed_old found.low_reclaim) (listed found.low_reclaim) target last
+          by_age : (b : Bool) → served_first b parts s.tree (gives_old tables s.parts.held.lists target) (gives tables target) target last ≡ served_first b parts s.tree (listed_old found.low_reclaim) (listed found.low_reclaim) target last
           by_age false = by_turns
           by_age true = option_or-agree old_first by_turns
 
@@ -433,63 +398,31 @@ module _ (s : Inside) (is : IsJoined s) where
 -- ---- the page that a group gives
 
 module _ (t : State) (target g : ℕ) where
-  -- what a page that may be taken says of its group
-  record MayGive : Type 0 where
-    pub below : under t.tree target g ≡ true
-    pub opened : is_unprotected t target g ≡ true
-    pub now : (is_above_low t target g || not (has_open t target)) ≡ true
-
-  usable_given : gives t target g ≡ true → any_there (is_usable (is_swap_free t) g) t.pages ≡ true
-  usable_given given = any_more (there_and (is_next_of t target g)) (there_and (is_usable (is_swap_free t) g)) t.pages by_slot given
-    where
-      by_slot : (slot : Option Page) → there_and (is_next_of t target g) slot ≡ true → there_and (is_usable (is_swap_free t) g) slot ≡ true
-      by_slot None e = e
-      by_slot (Some page) e =
-          let both = and_parts (page.group == g) _ e in
-          let takes = next-takeable t target page both.1 in
-          and_from (is_held page) ((page.group == g) && (not (is_anon page.content) || is_swap_free t)) (takeable-held t target page takes)
-          (and_from (page.group == g) (not (is_anon page.content) || is_swap_free t) both.0 (takeable-goes t target page takes))
-
-  may_give : gives t target g ≡ true → MayGive
-  may_give given = one_passes (λ slot. Unit {0}) (there_and (is_next_of t target g)) t.pages (λ k d lt. tt) given by_slot
-    where
-      by_slot : (slot : Option Page) → Unit {0} → there_and (is_next_of t target g) slot ≡ true → MayGive
-      by_slot None any e = absurd cc
-      by_slot (Some page) any e =
-          let both = and_parts (page.group == g) _ e in
-          let same : page.group ≡ g = grind (arith, nat_tests, both.0) in
-          let takes = next-takeable t target page both.1 in
-          record {
-            below = ap (under t.tree target) (sym same) ∙ takeable-below t target page takes;
-            opened = ap (is_unprotected t target) (sym same) ∙ takeable-unprotected t target page takes;
-            now = ap (λ h. is_above_low t target h || not (has_open t target)) (sym same) ∙ next-open t target page both.1;
-          }
-
   -- a group that is served has a page to give
   pub served-gives : (order : Order) (goal : Goal) → served t order goal target ≡ Some g → gives t target g ≡ true
   served-gives order goal serves = by_age (heeds_age t.opening.placement goal target) serves
     where
-      passes : (test : ℕ → Bool) → served_by t.tree test target (cursor_at order.cursors target) ≡ Some g → test g ≡ true
-      passes test found = (found-passes (λ (x : ℕ). Unit {0}) test (asking_order t.tree target (cursor_at order.cursors target)) g (λ k d lt. tt) found).1
+      passes : (test : ℕ → Bool) → served_by (takes_parts t.opening.placement goal) t.tree test target (cursor_at order.cursors target) ≡ Some g → test g ≡ true
+      passes test found = (found-passes (λ (x : ℕ). Unit {0}) test (asking_order (takes_parts t.opening.placement goal) t.tree target (cursor_at order.cursors target)) g (λ k d lt. tt) found).1
 
-      by_front : (front : Option ℕ) → served_by t.tree (gives_old t order.held target) target (cursor_at order.cursors target) ≡ front → option_or front (served_by t.tree (gives t target) target (cursor_at order.cursors target)) ≡ Some g → gives t target g ≡ true
+      by_front : (front : Option ℕ) → served_by (takes_parts t.opening.placement goal) t.tree (gives_old t order.held target) target (cursor_at order.cursors target) ≡ front → option_or front (served_by (takes_parts t.opening.placement goal) t.tree (gives t target) target (cursor_at order.cursors target)) ≡ Some g → gives t target g ≡ true
       by_front None is later = passes (gives t target) later
       by_front (Some h) is here = (and_parts (gives t target g) _ (passes (gives_old t order.held target) (is ∙ here))).0
 
-      by_age : (b : Bool) → served_first b t.tree (gives_old t order.held target) (gives t target) target (cursor_at order.cursors target) ≡ Some g → gives t target g ≡ true
+      by_age : (b : Bool) → served_first b (takes_parts t.opening.placement goal) t.tree (gives_old t order.held target) (gives t target) target (cursor_at order.cursors target) ≡ Some g → gives t target g ≡ true
       by_age false found = passes (gives t target) found
-      by_age true found = by_front (served_by t.tree (gives_old t order.held target) target (cursor_at order.cursors target)) refl found
+      by_age true found = by_front (served_by (takes_parts t.opening.placement goal) t.tree (gives_old t order.held target) target (cursor_at order.cursors target)) refl found
 
   module _ (order : Order) (goal : Goal) (serves : served t order goal target ≡ Some g) (lists : ListsHeld t.pages order.held) where
     -- and one on its lists
     pub given-usable : has_usable (is_swap_free t) (gens_at order.held.groups g) ≡ true
-    given-usable = usable-held t.pages order.held lists (is_swap_free t) g ∙ usable_given (served-gives order goal serves)
+    given-usable = usable-held t.pages order.held lists (is_swap_free t) g ∙ usable_given t target g (served-gives order goal serves)
 
     -- the page that is picked may be taken, memory where a swap block is free
     pub given-takes : AreGenerations order.held → (p : ℕ) (looked : HeldLists) (label : Label) (f : ℕ) → label.group ≡ g → HasResidence t.pages p label (Held f) → PicksOf (is_swap_free t) order.held g (Some p) looked
         → is_next t target (labelled label (Held f)) ≡ true
     given-takes sound p looked label f own stands picked =
-        let may = may_give (served-gives order goal serves) in
+        let may = may_give t target g (served-gives order goal serves) in
         and_from (is_takeable t target (labelled label (Held f))) (is_above_low t target label.group || not (has_open t target))
         (and_from (true && under t.tree target label.group && is_unprotected t target label.group) (not (is_anon label.content) || is_swap_free t)
         (and_from (under t.tree target label.group) (is_unprotected t target label.group) (ap (under t.tree target) own ∙ may.below) (ap (is_unprotected t target) own ∙ may.opened))

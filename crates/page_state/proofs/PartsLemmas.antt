@@ -11,11 +11,11 @@ use Rattle.machine.specs.declared.record.Kind.TheVariants.{Anon, File}
 use Rattle.machine.specs.declared.record.Kind.{Kind}
 use Rattle.machine.specs.Generations.{Gens, new_gens, row_of, has_page, is_listed, is_listed_in, gens_at}
 use Rattle.machine.specs.Aging.{is_marked}
-use Rattle.machine.specs.Lists.{HeldLists, kind_at, is_held_of, ListsHeld, Generation, Youngest, GoesOn}
+use Rattle.machine.specs.Lists.{HeldLists, kind_at, is_held_of, ListsHeld, Generation, Youngest, GoesOn, hits_at}
 use Rattle.machine.proofs.SlotLemmas.{one_if, any_there-none, count_there-none}
 use Rattle.machine.proofs.TreeLemmas.{eq_cases}
-use Rattle.machine.proofs.HeldChanges.{goes-on-same, goes-on-out, goes-on-in, unheld-unlisted}
-use Rattle.machine.proofs.HeldLemmas.{goes_length, held-go_on}
+use Rattle.page_lists.proofs.HeldChanges.{goes-on-same, goes-on-out, goes-on-in, unheld-unlisted}
+use Rattle.page_lists.proofs.HeldLemmas.{goes_length, held-go_on}
 use Rattle.machine.specs.Tree.{is_live}
 use Rattle.group_tree.proofs.LineageLemmas.{live-within}
 use Rattle.aging.proofs.GroupLemmas.{unlisted-all}
@@ -76,12 +76,13 @@ listed-step test xs xs' pages pages' p from to stood changes relists listed =
 pub listed-open : (test : Page → Bool) (xs : List ℕ) (pages : Pages) → xs ≡ [] → pages ≡ [] → AreListed test xs pages
 listed-open test xs pages none empty = rw (none, empty) (record { once = λ p. refl; len = refl })
 
--- no page, and none marked
-pub lists-open : (held : HeldLists) (pages : Pages) → held.groups ≡ new_gens ∷ [] → (n : ℕ) → held.marks ≡ replicate n false → pages ≡ [] → ListsHeld pages held
-lists-open held pages groups n marks none =
+-- no page, and none marked or hit
+pub lists-open : (held : HeldLists) (pages : Pages) → held.groups ≡ new_gens ∷ [] → (n : ℕ) → held.marks ≡ replicate n false → held.hits ≡ replicate n 0 → pages ≡ [] → ListsHeld pages held
+lists-open held pages groups n marks hits none =
     record {
       rows = λ g kind p. ap (λ (gs : List Gens). has_page p (row_of kind (gens_at gs g)).pages) groups ∙ row g kind p ∙ sym (ap (λ (ps : Pages). there_and (is_held_of g kind) (page_at ps p)) none);
       marked = λ p marked. absurd (let wrong : false ≡ true = sym (unmarked n p) ∙ sym (ap (λ (ms : List Bool). is_marked ms p) marks) ∙ marked in cc);
+      counted = λ p gone. ap (λ (ns : List ℕ). hits_at ns p) hits ∙ unhit n p;
     }
   where
     row : (g : ℕ) (kind : Kind) (p : ℕ) → has_page p (row_of kind (gens_at (new_gens ∷ []) g)).pages ≡ false
@@ -94,6 +95,11 @@ lists-open held pages groups n marks none =
     unmarked zero p = refl
     unmarked (suc n) zero = refl
     unmarked (suc n) (suc p) = unmarked n p
+
+    unhit : (n p : ℕ) → hits_at (replicate n 0) p ≡ 0
+    unhit zero p = refl
+    unhit (suc n) zero = refl
+    unhit (suc n) (suc p) = unhit n p
 
 pub relists-same : (test : Page → Bool) (xs : List ℕ) (p : ℕ) (from to : Option Page) → there_and test from ≡ there_and test to → Relists test xs xs p from to
 relists-same test xs p from to same = record { once = λ n. ap (λ b. times xs n + one_if (b && (p == n))) same; len = ap (λ b. length xs + one_if b) same }
@@ -179,10 +185,10 @@ module _ (pages : Pages) (held : HeldLists) (lists : ListsHeld pages held) (p : 
       (ap (there_and is_held) changes.changed ∙ gone)
 
   -- a page comes to the list of its group and its type
-  pub goes-in : (generation : Generation) (pages' : Pages) (from : Option Page) (label : Label) (f : ℕ) → page_at pages p ≡ from → there_and is_held from ≡ false → Changes pages pages' p (Some (labelled label (Held f)))
+  pub goes-in : (generation : Generation) (pages' : Pages) (from : Option Page) (label : Label) (f : ℕ) → page_at pages p ≡ from → there_and is_held from ≡ false → Changes pages pages' p (Some (labelled label (Held f))) → p < length held.hits
       → GoesOn generation pages held pages' (entered held label.group (kind_at label.content) p generation)
-  goes-in generation pages' from label f stood absent changes =
-      goes-on-in generation pages pages' held lists p (elsewhere generation pages' from (Some (labelled label (Held f))) stood changes) (labelled label (Held f)) changes.changed refl (ap (there_and is_held) stood ∙ absent)
+  goes-in generation pages' from label f stood absent changes within =
+      goes-on-in generation pages pages' held lists p (elsewhere generation pages' from (Some (labelled label (Held f))) stood changes) (labelled label (Held f)) changes.changed refl (ap (there_and is_held) stood ∙ absent) within
 
 -- ---- what is free, or a page's
 

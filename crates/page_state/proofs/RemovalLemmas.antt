@@ -12,7 +12,7 @@ use Rattle.machine.proofs.TreeLemmas.{eq_cases, under_at-None, under_at-step, sh
 use Rattle.machine.proofs.SlotLemmas.{one_if, count_there-none}
 use Rattle.machine.proofs.RemovedLemmas.{without-other, without-under, regrouped-test, regrouped-was, count-alike}
 use Rattle.machine.proofs.RemovedLemmas.{no_child}
-use Rattle.machine.proofs.HandedLemmas.{held-handed}
+use Rattle.page_lists.proofs.HandedLemmas.{held-handed}
 use Rattle.group_tree.specs.Lineages.{IsLineage}
 use Rattle.group_tree.proofs.LineageLemmas.{live-within}
 use Rattle.page_counter.specs.Counts.{Counts, IsOut, SameGroups, MovesUp, usage_of}
@@ -222,7 +222,7 @@ balanced-regrouped this has total free pages pages' g parent same_this same_has 
 module _ (h : Parts) (is : PartsAgree h) (g parent : ℕ) (d e : Counts) (pages : PagesOf) (held : HeldOf) (handed : (p : ℕ) → page_at pages.pages p ≡ option_map (regrouped g parent) (page_at h.pages.pages p))
     (others : pages ≡ record (h.pages) { pages = pages.pages; bytes = pages.bytes }) (same : SameGroups h.counters d) (counted : IsCounted d pages.pages) (lineage : IsLineage h.counters.tree)
     (below : (node_at h.counters.tree g).parent ≡ Some parent) (live : is_live h.counters.tree g ≡ true) (childless : has_children h.counters.tree g ≡ false)
-    (takes : held ≡ record (h.held) { lists = record { groups = handed_over g parent h.held.lists.groups; marks = h.held.lists.marks } }) where
+    (takes : held ≡ record (h.held) { lists = record { groups = handed_over g parent h.held.lists.groups; marks = h.held.lists.marks; hits = h.held.lists.hits } }) where
   -- the parent is another group, and is there
   pub parent-apart : parent ≢ g
   parent-apart equal = let less = lineage.earlier_parents.falls g parent below in omega (arith, less, equal)

@@ -163,6 +163,7 @@ pub record Lands (h h' : Parts) (p : ℕ) (label : Label) (f b n : ℕ) (placeme
   pub most_spares : h'.pool.most_spares ≡ h.pool.most_spares
   pub blocks : h'.slots.blocks ≡ h.slots.blocks
   pub held : JoinsAtEnd placement d end h.held h'.held label.group (kind_at label.content) p
+  pub counted : p < length h.held.lists.hits
   pub moving : LeavesQueue h.moving h'.moving p
 
 -- the page that is settled may be held again, in its group
@@ -188,7 +189,7 @@ module _ (h h' : Parts) (is : PartsAgree h) (p : ℕ) (label : Label) (f b n : �
   held-lands : (end : End) → Lands h h' p label f b n placement d end → GoesOn (entry_after placement d) h.pages.pages h.held.lists h'.pages.pages h'.held.lists × (h'.held.numbers ≡ h.held.numbers)
   held-lands InFrame lands = (
     subst (λ (held : HeldLists). GoesOn (entry_after placement d) h.pages.pages h.held.lists h'.pages.pages held) (sym (ap (λ (held : HeldOf). held.lists) lands.held))
-        (goes-in h.pages.pages h.held.lists is.held p (entry_after placement d) h'.pages.pages from label f lands.stood (moving-is d f b n).3 lands.ended.placed),
+        (goes-in h.pages.pages h.held.lists is.held p (entry_after placement d) h'.pages.pages from label f lands.stood (moving-is d f b n).3 lands.ended.placed lands.counted),
     ap (λ (held : HeldOf). held.numbers) lands.held,
   )
   held-lands OnBlock lands = (

@@ -62,7 +62,7 @@ module _ (h : Parts) (is : PartsAgree h) (pages : PagesOf) (same : (q : ℕ) →
           counted = record { counts = λ a lt. is.kept.counted.counts a lt ∙ sym (counts (is_charged h.counters.tree a) (λ page. refl)); live = live };
         };
         few = is.few;
-        held = record { rows = λ g kind p. is.held.rows g kind p ∙ sym (alike (is_held_of g kind) (λ page. refl) p); marked = λ p marked. alike is_held (λ page. refl) p ∙ is.held.marked p marked };
+        held = record { rows = λ g kind p. is.held.rows g kind p ∙ sym (alike (is_held_of g kind) (λ page. refl) p); marked = λ p marked. alike is_held (λ page. refl) p ∙ is.held.marked p marked; counted = λ p gone. is.held.counted p (sym (alike is_held (λ page. refl) p) ∙ gone) };
         moving = record { once = λ p. is.moving.once p ∙ ap as_number (sym (alike is_in_transfer (λ page. refl) p)); len = is.moving.len ∙ sym moving };
         moving_room = is.moving_room;
         held_groups = is.held_groups;

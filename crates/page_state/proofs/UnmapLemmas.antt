@@ -23,7 +23,7 @@ use Rattle.page_state.specs.Changes.{Unmaps, UnmapsAll, EndsTask}
 use Rattle.page_state.specs.Joined.{joined_of, IsJoined}
 use Rattle.page_state.proofs.MappedLemmas.{mapped-dropped}
 use Rattle.machine.specs.Lists.{Youngest}
-use Rattle.machine.proofs.HeldLemmas.{goes-still}
+use Rattle.page_lists.proofs.HeldLemmas.{goes-still}
 use Rattle.page_state.proofs.DropLemmas.{fewer, stays_settled}
 use Rattle.page_state.proofs.PartsLemmas.{stays-same}
 use Rattle.page_state.proofs.JoinLemmas.{joined-pages, joined-tasks}

@@ -88,7 +88,7 @@ pub record MakesPage (old new : StateOf) (t v g o byte : ℕ) : Type 0 where
 
 -- the pages held in the frames of these bits are marked as accessed, and all else is as it was
 pub record MergesFrames (old new : StateOf) (word bits : ℕ) : Type 0 where
-  pub merges : MergesMarks old.tables.pages word bits old.order.held new.order.held
+  pub merges : MergesMarks old.tables.opening.placement old.tables.pages word bits old.order.held new.order.held
   pub others : new ≡ record old { order = record { held = new.order.held; cursors = old.order.cursors } }
 
 -- a byte of a page in a frame is written, and a page of a file is dirty then

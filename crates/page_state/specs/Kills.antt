@@ -9,7 +9,7 @@ pub record CountsBelow (old now : StateOf) (h n tasks : ℕ) : Type 0 where
   pub counts : now ≡ counts_events old (counts_of_killed old.tables.tree (take n old.tables.tasks) h)
   pub many : tasks ≡ killed_with old.tables.tree (take n old.tables.tasks) h
   pub few : tasks ≤ n
-  pub most : AreAtMost now.tables (2 ^ 63 + 1 + n)
+  pub most : AreAtMost now.tables (2 ^ 63 + 2 + n)
 
 -- the task is one of those below this number
 abbrev pub is_ended_below : StateOf → ℕ → ℕ → ℕ → Bool

@@ -83,12 +83,20 @@ impl State {
         self.parts.pages.write(page, offset as usize, byte);
     }
 
-    /// Marks the pages that are held in the frames of these bits as accessed (kernel: a walk over the accessed bits
-    /// of page tables, `walk_mm`). Bit b belongs to frame `64 * word + b`. Allocates no memory.
+    /// Hits the pages that are held in the frames of these bits, which the placement marks as accessed after so many
+    /// hits (kernel: a walk over the accessed bits of page tables, `walk_mm`; for a page of a file, `folio_inc_refs`).
+    /// Bit b belongs to frame `64 * word + b`. Allocates no memory.
     pub fn merge_marks(&mut self, word: u32, bits: u64)
         ensures { MergesFrames self.old self.new word bits }
     {
-        merge_marks(&self.parts.pages, &mut self.parts.held, word, bits);
+        let placement = self.config.placement;
+        merge_marks(
+            &self.parts.pages,
+            &mut self.parts.held,
+            placement,
+            word,
+            bits,
+        );
     }
 
     /// Begins to read in what the source names, charged to the group, which has room for it. The source is memory of

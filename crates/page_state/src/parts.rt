@@ -61,7 +61,7 @@ impl Parts {
         ensures pages { IfOk result (λ h. h.pages.pages ≡ []) }
         ensures bytes { IfOk result (λ h. h.pages.bytes ≡ []) }
         ensures flights { IfOk result (λ h. h.pages.flights ≡ []) }
-        ensures held { IfOk result (λ h. h.held.lists ≡ record { groups = new_gens ∷ []; marks = replicate (frames + swap) false }) }
+        ensures held { IfOk result (λ h. h.held.lists ≡ record { groups = new_gens ∷ []; marks = replicate (frames + swap) false; hits = replicate (frames + swap) 0 }) }
         ensures frames { IfOk result (λ h. h.pool.frames ≡ frames) }
         ensures swap { IfOk result (λ h. h.slots.blocks ≡ swap) }
         ensures numbers { IfOk result (λ h. h.pages.numbers ≡ frames + swap) }

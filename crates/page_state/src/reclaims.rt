@@ -44,12 +44,14 @@ impl State {
         };
         let swap_free = self.has_swap();
         let heeds_age = self.config.placement.heeds_age(goal, target);
+        let takes_parts = self.config.placement.takes_parts(goal);
         let scan = ScanControl {
             protection,
             gens: self.parts.held.gens(),
             marks: self.parts.held.marks(),
             swap_free,
             heeds_age,
+            takes_parts,
         };
         self.cursors.next_group(scan)
     }
@@ -66,8 +68,8 @@ impl State {
         )
     }
 
-    /// Evicts the next page of the group that is served. The target's cursor moves to the group. The page
-    /// begins to be written out under the ticket. If there is no ticket, it was a clean page of a file, and
+    /// Evicts the next page of the group that is served. The target's cursor moves to the group, whose turn goes
+    /// on or begins if the reclaim takes parts. The page begins to be written out under the ticket. If there is no ticket, it was a clean page of a file, and
     /// is dropped (kernel: shrink_folio_list). Allocates no memory.
     pub fn take_out(&mut self, goal: Goal, target: GroupId, group: GroupId) -> Option<OutTicket>
         requires live { is_live self.old.tables.tree target.0 ≡ true }
@@ -75,10 +77,29 @@ impl State {
         requires young { AreYoung self.old.order.held }
         ensures { TakesPage self.old self.new goal target.0 group.0 result }
     {
-        self.parts.held.are_generations();
+        self.is_joined();
+        self.tree.groups_form_a_tree();
+        let recursive = self.is_recursive();
         let swap_free = self.has_swap();
+        let heeds_age = self.config.placement.heeds_age(goal, target);
+        let takes_parts = self.config.placement.takes_parts(goal);
+        let protection = Protection {
+            tree: &self.tree,
+            counters: &self.parts.counters,
+            recursive,
+            target,
+        };
+        let scan = ScanControl {
+            protection,
+            gens: self.parts.held.gens(),
+            marks: self.parts.held.marks(),
+            swap_free,
+            heeds_age,
+            takes_parts,
+        };
+        self.cursors.serve(scan, group);
+        self.parts.held.are_generations();
         let page = self.parts.held.pick(group, swap_free);
-        self.cursors.serve(target, group);
         self.parts.take_out(page)
     }
 

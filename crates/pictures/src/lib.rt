@@ -1,8 +1,20 @@
-//! What pictures are made of: scales, curves and texts, as SVG.
+//! What pictures are made of: scales, curves, bands and texts, as SVG.
 #![tactic(auto)]
 
+mod bands;
+mod ends;
+mod labels;
+mod markup;
+mod moments;
 mod pen;
 mod scale;
 
-pub use pen::{Pen, escaped};
-pub use scale::{Scale, Size, bytes_of, line_marks, page_marks, pixels};
+pub use bands::{BAND, degree, draw_key, draw_part};
+pub use ends::{LEFT, RIGHT, WIDTH};
+pub use labels::{Label, add_first_part, add_label, add_last_part, draw_labels};
+pub use markup::{
+    add_attribute, add_escaped, add_escaped_character, add_length, add_pixels, add_point,
+};
+pub use moments::{Moments, Sign};
+pub use pen::Pen;
+pub use scale::{Scale, Size, bytes_of, line_marks, page_marks};

@@ -104,10 +104,3 @@ impl fmt::Display for Size {
         write!(f, "{bytes}")
     }
 }
-
-/// Tenths of a pixel, as pixels.
-pub fn pixels(alloc: Global, tenths: u64) -> Result<String, AllocError> {
-    let whole = tenths / 10;
-    let rest = tenths % 10;
-    format!(in alloc; "{whole}.{rest}")
-}

@@ -1,5 +1,5 @@
 -- Which group gives a page, and that one does wherever one has a page to give.
-use Rattle.std.proofs.Common.{inl, inr, ◌≡◌, ℕ, ◌+◌, ◌==◌, ◌&&◌, ◌||◌, not, Bool, true, false, if◌then◌else◌, List, [], ◌∷◌, get_or, drop, take, Option, Some, None, refl, sym, ap, ◌∙◌, subst, arith}
+use Rattle.std.proofs.Common.{inl, inr, ◌≡◌, ℕ, ◌+◌, ◌==◌, ◌&&◌, ◌||◌, not, nat_lt, zero, suc, Bool, true, false, if◌then◌else◌, List, [], ◌∷◌, get_or, drop, take, Option, Some, None, refl, sym, ap, ◌∙◌, subst, arith}
 use Rattle.std.specs.Prelude.{find, is_some, All}
 use Rattle.std.specs.Option.{option_or}
 use Rattle.std.specs.List.{list_any}
@@ -8,7 +8,7 @@ use Rattle.std.proofs.lemmas.Bool.Decides.{nat_tests}
 use Rattle.std.proofs.lemmas.List.Elements.{All-head, All-tail, All-append, All-take, All-drop}
 use Rattle.std.proofs.lemmas.List.Folds.{find-append, list_any-append, list_any_at, Any-from_list_any}
 use Rattle.machine.specs.declared.id.GroupId.{GroupId}
-use Rattle.machine.specs.Order.{round_from, place_in, asking_order, served_by, served_first}
+use Rattle.machine.specs.Order.{Cursor, round_from, place_in, asked_of, in_turn, asking_order, served_by, served_first}
 use Rattle.machine.specs.Tree.{Node, is_live, under, preorder}
 use Rattle.machine.specs.Eviction.{has_old_file}
 use Rattle.aging.specs.Groups.{seen_at}
@@ -18,7 +18,7 @@ use Rattle.group_tree.specs.Walk.{behind}
 use Rattle.group_tree.proofs.PreorderLemmas.{preorder-has}
 use Rattle.reclaim.specs.declared.scan_control.ScanControl.{ScanControl}
 use Rattle.reclaim.specs.Pass.{gives_by, asked_by, IsGiver, GivesNone}
-use Rattle.reclaim.specs.Walk.{is_at, behind_last, up_to, AreAsked}
+use Rattle.reclaim.specs.Walk.{is_at, behind_last, up_to, in_walk, ones, AreAsked}
 use Rattle.reclaim.proofs.WalkLemmas.{up_to-none, parts}
 
 -- ---- the first of a list that passes
@@ -85,9 +85,31 @@ module _ (tree : List Node) (target : ℕ) where
       let among = list_any_at (λ a. a == g) (preorder tree target) k d lt (let same : (g == g) ≡ true = grind arith in same) in
       and_parts _ _ (sym (preorder-has tree groups target g live) ∙ among)
 
+  -- and the group whose turn goes on
+  asked-turn : (parts : Bool) (cursor : Cursor) → AreAsked tree target (in_turn parts tree target cursor)
+  asked-turn parts cursor =
+      elim (parts && nat_lt 0 cursor.left) as (λ b. AreAsked tree target (if b then asked_of tree target cursor.group else [])) [
+        | true ↦ of_group cursor.group
+        | false ↦ λ k d lt. absurd (omega (arith, lt))
+      ]
+    where
+      of_group : (last : Option ℕ) → AreAsked tree target (asked_of tree target last)
+      of_group None = λ k d lt. absurd (omega (arith, lt))
+      of_group (Some g) =
+          elim (cases_Bool (is_live tree g && under tree target g)) [
+            | inl is ↦ subst (λ b. AreAsked tree target (if b then g ∷ [] else [])) (sym is) (one (and_parts _ _ is))
+            | inr other ↦ subst (λ b. AreAsked tree target (if b then g ∷ [] else [])) (sym other) (λ k d lt. absurd (omega (arith, lt)))
+          ]
+        where
+          one : (is_live tree g ≡ true) × (under tree target g ≡ true) → AreAsked tree target (g ∷ [])
+          one both zero d lt = both
+          one both (suc k) d lt = absurd (omega (arith, lt))
+
   -- in the order in which they are
-  pub asked-order : (last : Option ℕ) → IsGroupTree tree → is_live tree target ≡ true → AreAsked tree target (asking_order tree target last)
-  asked-order last groups live = round (preorder tree target) (place_in (preorder tree target) last) (asked-all groups live)
+  pub asked-order : (parts : Bool) (cursor : Cursor) → IsGroupTree tree → is_live tree target ≡ true → AreAsked tree target (asking_order parts tree target cursor)
+  asked-order parts cursor groups live =
+      All-append (λ g. (is_live tree g ≡ true) × (under tree target g ≡ true)) (in_turn parts tree target cursor) (round_from (preorder tree target) (place_in (preorder tree target) cursor.group))
+      (asked-turn parts cursor) (round (preorder tree target) (place_in (preorder tree target) cursor.group) (asked-all groups live))
     where
       round : (gs : List ℕ) (place : Option ℕ) → AreAsked tree target gs → AreAsked tree target (round_from gs place)
       round gs None all = all
@@ -110,39 +132,58 @@ same_some None = refl
 same_some (Some group) = refl
 
 module _ (tree : List Node) (test : ℕ → Bool) (target : ℕ) (last : Option ℕ) where
-  parts-find : served_by tree test target last ≡ option_or (find test (behind_last (preorder tree target) last)) (find test (up_to (preorder tree target) last))
+  parts-find : in_walk tree test target last ≡ option_or (find test (behind_last (preorder tree target) last)) (find test (up_to (preorder tree target) last))
   parts-find = ap (find test) (sym (parts (preorder tree target) last)) ∙ find-append test (behind_last (preorder tree target) last) (up_to (preorder tree target) last)
 
   -- what the first part finds is served
-  pub first_part : (group : Option GroupId) → number group ≡ find test (behind_last (preorder tree target) last) → is_some group ≡ true → number group ≡ served_by tree test target last
+  pub first_part : (group : Option GroupId) → number group ≡ find test (behind_last (preorder tree target) last) → is_some group ≡ true → number group ≡ in_walk tree test target last
   first_part group e some =
       e ∙ sym (parts-find ∙ some_first _ (find test (up_to (preorder tree target) last)) (ap is_some (sym e) ∙ same_some group ∙ some))
 
   -- and else what the second part finds
   pub second_part : (walk : List ℕ) (group later : Option GroupId) → walk ≡ preorder tree target → number group ≡ find test (behind_last (preorder tree target) last) → is_some group ≡ false
-      → number later ≡ find test (up_to walk last) → number later ≡ served_by tree test target last
+      → number later ≡ find test (up_to walk last) → number later ≡ in_walk tree test target last
   second_part walk group later w e none f =
       f ∙ ap (λ gs. find test (up_to gs last)) w
       ∙ sym (parts-find ∙ none_first _ (find test (up_to (preorder tree target) last)) (ap is_some (sym e) ∙ same_some group ∙ none))
 
+-- ---- the group whose turn goes on
+module _ (tree : List Node) (test : ℕ → Bool) (target : ℕ) (parts : Bool) (cursor : Cursor) where
+  turn-find : served_by parts tree test target cursor ≡ option_or (find test (in_turn parts tree target cursor)) (in_walk tree test target cursor.group)
+  turn-find = find-append test (in_turn parts tree target cursor) (round_from (preorder tree target) (place_in (preorder tree target) cursor.group))
+
+  -- it is served, if it has a page to give
+  pub goes_on : (g : GroupId) → ones (Some g.0) ≡ in_turn parts tree target cursor → test g.0 ≡ true → Some g.0 ≡ served_by parts tree test target cursor
+  goes_on g is gives = sym (turn-find ∙ ap (λ gs. option_or (find test gs) (in_walk tree test target cursor.group)) (sym is) ∙ ap (λ b. option_or (if b then Some g.0 else None) (in_walk tree test target cursor.group)) gives)
+
+  -- if it has none, the walk tells
+  pub ends_turn : (g : GroupId) (later : Option GroupId) → ones (Some g.0) ≡ in_turn parts tree target cursor → test g.0 ≡ false → number later ≡ in_walk tree test target cursor.group
+      → number later ≡ served_by parts tree test target cursor
+  ends_turn g later is gives found =
+      found ∙ sym (turn-find ∙ ap (λ gs. option_or (find test gs) (in_walk tree test target cursor.group)) (sym is) ∙ ap (λ b. option_or (if b then Some g.0 else None) (in_walk tree test target cursor.group)) gives)
+
+  -- and if no turn goes on
+  pub no_turn : (later : Option GroupId) → [] ≡ in_turn parts tree target cursor → number later ≡ in_walk tree test target cursor.group → number later ≡ served_by parts tree test target cursor
+  no_turn later is found = found ∙ sym (turn-find ∙ ap (λ gs. option_or (find test gs) (in_walk tree test target cursor.group)) (sym is))
+
 -- ---- the groups that are asked first
-module _ (tree : List Node) (old gives : ℕ → Bool) (target : ℕ) (last : Option ℕ) where
+module _ (parts : Bool) (tree : List Node) (old gives : ℕ → Bool) (target : ℕ) (cursor : Cursor) where
   -- where age is not heeded, there is one pass
-  pub one_pass : (heeds : Bool) (group : Option GroupId) → heeds ≡ false → number group ≡ served_by tree gives target last → number group ≡ served_first heeds tree old gives target last
+  pub one_pass : (heeds : Bool) (group : Option GroupId) → heeds ≡ false → number group ≡ served_by parts tree gives target cursor → number group ≡ served_first heeds parts tree old gives target cursor
   one_pass heeds group is found = rw is found
 
   -- where it is, what the first pass finds is served
-  pub pass_in_front : (heeds : Bool) (group : Option GroupId) → heeds ≡ true → number group ≡ served_by tree old target last → is_some group ≡ true → number group ≡ served_first heeds tree old gives target last
+  pub pass_in_front : (heeds : Bool) (group : Option GroupId) → heeds ≡ true → number group ≡ served_by parts tree old target cursor → is_some group ≡ true → number group ≡ served_first heeds parts tree old gives target cursor
   pass_in_front heeds group is found some =
-      found ∙ sym (some_first (served_by tree old target last) (served_by tree gives target last) (ap is_some (sym found) ∙ same_some group ∙ some))
-      ∙ ap (λ b. served_first b tree old gives target last) (sym is)
+      found ∙ sym (some_first (served_by parts tree old target cursor) (served_by parts tree gives target cursor) (ap is_some (sym found) ∙ same_some group ∙ some))
+      ∙ ap (λ b. served_first b parts tree old gives target cursor) (sym is)
 
   -- and else what the second one finds
-  pub pass_behind : (heeds : Bool) (group later : Option GroupId) → heeds ≡ true → number group ≡ served_by tree old target last → is_some group ≡ false → number later ≡ served_by tree gives target last
-      → number later ≡ served_first heeds tree old gives target last
+  pub pass_behind : (heeds : Bool) (group later : Option GroupId) → heeds ≡ true → number group ≡ served_by parts tree old target cursor → is_some group ≡ false → number later ≡ served_by parts tree gives target cursor
+      → number later ≡ served_first heeds parts tree old gives target cursor
   pass_behind heeds group later is none_found none found =
-      found ∙ sym (none_first (served_by tree old target last) (served_by tree gives target last) (ap is_some (sym none_found) ∙ same_some group ∙ none))
-      ∙ ap (λ b. served_first b tree old gives target last) (sym is)
+      found ∙ sym (none_first (served_by parts tree old target cursor) (served_by parts tree gives target cursor) (ap is_some (sym none_found) ∙ same_some group ∙ none))
+      ∙ ap (λ b. served_first b parts tree old gives target cursor) (sym is)
 
 -- whether a group is asked: those without an old file are not, in a pass that asks for one
 pub unasked : (sc : ScanControl) (old_files low_reclaim has : Bool) (g : ℕ) → has ≡ has_old_file (seen_at g sc.gens.now sc.marks.now) → (old_files && not has) ≡ true → asked_by sc old_files low_reclaim g ≡ false
@@ -184,7 +225,11 @@ around : (test : ℕ → Bool) (gs : List ℕ) (last : Option ℕ) → (list_any
 around test gs None = ap (list_any test) (up_to-none gs)
 around test gs (Some last) = around_place test gs last
 
-module _ (sc : ScanControl) (low_reclaim : Bool) (groups : IsGroupTree sc.protection.tree.now) (last : Option ℕ) where
+second_none : (a b : Option ℕ) → option_or a b ≡ None → b ≡ None
+second_none None b e = e
+second_none (Some x) b e = absurd cc
+
+module _ (sc : ScanControl) (low_reclaim : Bool) (groups : IsGroupTree sc.protection.tree.now) (cursor : Cursor) where
   abbrev tree : List Node
   tree = sc.protection.tree.now
 
@@ -192,37 +237,38 @@ module _ (sc : ScanControl) (low_reclaim : Bool) (groups : IsGroupTree sc.protec
   target = sc.protection.target.0
 
   -- the group that one pass serves has a page to give
-  one-serves : (g : ℕ) → served_by tree (gives_by sc low_reclaim) target last ≡ Some g → IsGiver sc low_reclaim g
+  one-serves : (g : ℕ) → served_by sc.takes_parts tree (gives_by sc low_reclaim) target cursor ≡ Some g → IsGiver sc low_reclaim g
   one-serves g found =
-      let is = found-passes (λ a. (is_live tree a ≡ true) × (under tree target a ≡ true)) (gives_by sc low_reclaim) (asking_order tree target last) g (asked-order tree target last groups sc.live) found in
+      let is = found-passes (λ a. (is_live tree a ≡ true) × (under tree target a ≡ true)) (gives_by sc low_reclaim) (asking_order sc.takes_parts tree target cursor) g (asked-order tree target sc.takes_parts cursor groups sc.live) found in
       record { live = is.0.0; below = is.0.1; gives = is.1 }
 
   -- and where it serves none, none has
-  none-serves : served_by tree (gives_by sc low_reclaim) target last ≡ None → GivesNone sc low_reclaim
+  none-serves : served_by sc.takes_parts tree (gives_by sc low_reclaim) target cursor ≡ None → GivesNone sc low_reclaim
   none-serves nothing g there below =
       among (gives_by sc low_reclaim) g (preorder tree target)
       (preorder-has tree groups target g sc.live ∙ ap (λ b. b && under tree target g) there ∙ below)
-      (sym (around (gives_by sc low_reclaim) (preorder tree target) last) ∙ sym (list_any-append (gives_by sc low_reclaim) (behind_last (preorder tree target) last) (up_to (preorder tree target) last))
-      ∙ ap (list_any (gives_by sc low_reclaim)) (parts (preorder tree target) last) ∙ none-passes (gives_by sc low_reclaim) (asking_order tree target last) nothing)
+      (sym (around (gives_by sc low_reclaim) (preorder tree target) cursor.group) ∙ sym (list_any-append (gives_by sc low_reclaim) (behind_last (preorder tree target) cursor.group) (up_to (preorder tree target) cursor.group))
+      ∙ ap (list_any (gives_by sc low_reclaim)) (parts (preorder tree target) cursor.group)
+      ∙ none-passes (gives_by sc low_reclaim) _ (second_none (find (gives_by sc low_reclaim) (in_turn sc.takes_parts tree target cursor)) _ (sym (turn-find tree (gives_by sc low_reclaim) target sc.takes_parts cursor) ∙ nothing)))
 
   -- so with the pass in front
   abbrev asked_first : Bool → Option ℕ
-  asked_first heeds = served_first heeds tree (asked_by sc true low_reclaim) (gives_by sc low_reclaim) target last
+  asked_first heeds = served_first heeds sc.takes_parts tree (asked_by sc true low_reclaim) (gives_by sc low_reclaim) target cursor
 
   pub first-serves : (heeds : Bool) (g : ℕ) → asked_first heeds ≡ Some g → IsGiver sc low_reclaim g
   first-serves false g found = one-serves g found
-  first-serves true g found = by_front (served_by tree (asked_by sc true low_reclaim) target last) refl found
+  first-serves true g found = by_front (served_by sc.takes_parts tree (asked_by sc true low_reclaim) target cursor) refl found
     where
-      by_front : (front : Option ℕ) → served_by tree (asked_by sc true low_reclaim) target last ≡ front → option_or front (served_by tree (gives_by sc low_reclaim) target last) ≡ Some g → IsGiver sc low_reclaim g
+      by_front : (front : Option ℕ) → served_by sc.takes_parts tree (asked_by sc true low_reclaim) target cursor ≡ front → option_or front (served_by sc.takes_parts tree (gives_by sc low_reclaim) target cursor) ≡ Some g → IsGiver sc low_reclaim g
       by_front None is later = one-serves g later
       by_front (Some h) is here =
-          let found = found-passes (λ a. (is_live tree a ≡ true) × (under tree target a ≡ true)) (asked_by sc true low_reclaim) (asking_order tree target last) g (asked-order tree target last groups sc.live) (is ∙ here) in
+          let found = found-passes (λ a. (is_live tree a ≡ true) × (under tree target a ≡ true)) (asked_by sc true low_reclaim) (asking_order sc.takes_parts tree target cursor) g (asked-order tree target sc.takes_parts cursor groups sc.live) (is ∙ here) in
           record { live = found.0.0; below = found.0.1; gives = (and_parts (gives_by sc low_reclaim g) _ found.1).0 }
 
   pub first-none : (heeds : Bool) → asked_first heeds ≡ None → GivesNone sc low_reclaim
   first-none false nothing = none-serves nothing
-  first-none true nothing = none-serves (by_front (served_by tree (asked_by sc true low_reclaim) target last) nothing)
+  first-none true nothing = none-serves (by_front (served_by sc.takes_parts tree (asked_by sc true low_reclaim) target cursor) nothing)
     where
-      by_front : (front : Option ℕ) → option_or front (served_by tree (gives_by sc low_reclaim) target last) ≡ None → served_by tree (gives_by sc low_reclaim) target last ≡ None
+      by_front : (front : Option ℕ) → option_or front (served_by sc.takes_parts tree (gives_by sc low_reclaim) target cursor) ≡ None → served_by sc.takes_parts tree (gives_by sc low_reclaim) target cursor ≡ None
       by_front None later = later
       by_front (Some h) here = absurd cc

@@ -5,7 +5,7 @@ use Rattle.std.proofs.lemmas.Bool.{cases_Bool}
 use Rattle.std.proofs.lemmas.Iterator.Adapters.{position_from-zero}
 use Rattle.std.specs.Option.{option_eq}
 use Rattle.machine.specs.declared.id.GroupId.{GroupId}
-use Rattle.machine.specs.Order.{round_from, place_in}
+use Rattle.machine.specs.Order.{round_from, place_in, behind_place}
 use Rattle.group_tree.specs.Tables.{number}
 use Rattle.group_tree.specs.Walk.{behind}
 use Rattle.reclaim.specs.Walk.{is_at, behind_last, up_to}
@@ -76,4 +76,17 @@ parts gs (Some g) =
       | inr misses ↦
           (let place : place_in gs (Some g) ≡ None = position_from-zero (λ a. a == g) gs ∙ misses.found in
           ap (λ xs. xs ++ up_to gs (Some g)) misses.later ∙ misses.sooner ∙ sym (ap (round_from gs) place))
+    ]
+
+-- what is behind the group that was served last
+pub behind-place : (gs : List ℕ) (last : Option ℕ) → behind_last gs last ≡ behind_place gs (place_in gs last)
+behind-place gs None = refl
+behind-place gs (Some g) =
+    elim (cases g 0 gs) [
+      | inl (i, comes) ↦
+          (let place : place_in gs (Some g) ≡ Some i = position_from-zero (λ a. a == g) gs ∙ comes.found ∙ ap Some (let same : 0 + i ≡ i = omega arith in same) in
+          comes.later ∙ sym (ap (behind_place gs) place))
+      | inr misses ↦
+          (let place : place_in gs (Some g) ≡ None = position_from-zero (λ a. a == g) gs ∙ misses.found in
+          misses.later ∙ sym (ap (behind_place gs) place))
     ]

@@ -1,10 +1,12 @@
 -- What a pass of a reclaim asks of the groups (mm/vmscan.c: shrink_node_memcgs).
-use Rattle.std.specs.Prelude.{◌≡◌, ℕ, ◌&&◌, ◌||◌, Bool, true, false}
+use Rattle.std.specs.Prelude.{◌≡◌, ℕ, ◌&&◌, ◌||◌, not, Bool, true, false}
 use Rattle.machine.specs.declared.record.Guard.TheVariants.{Min, Low}
 use Rattle.machine.specs.Tree.{is_live, under}
+use Rattle.machine.specs.Order.{Cursor, cursor_after}
 use Rattle.machine.specs.Generations.{gens_at}
 use Rattle.machine.specs.Eviction.{has_usable, has_old_file}
 use Rattle.aging.specs.Groups.{seen_at}
+use Rattle.page_counter.specs.Counts.{usage_of}
 use Rattle.protection.specs.Effective.{is_beyond_by}
 use Rattle.reclaim.specs.declared.scan_control.ScanControl.{ScanControl}
 
@@ -17,6 +19,14 @@ gives_by sc low_reclaim g = (is_beyond_by sc.protection Min g && (low_reclaim ||
 abbrev pub asked_by : ScanControl → Bool → Bool → ℕ → Bool
 asked_by sc false low_reclaim g = gives_by sc low_reclaim g
 asked_by sc true low_reclaim g = gives_by sc low_reclaim g && has_old_file (seen_at g sc.gens.now sc.marks.now)
+
+-- the pass in which a group with a page to give gives it: the second one, if its low protects it
+abbrev pub in_second : ScanControl → ℕ → Bool
+in_second sc g = not (is_beyond_by sc.protection Low g)
+
+-- whose turn it is, once this group has given a page
+abbrev pub cursor_by : ScanControl → Cursor → ℕ → Cursor
+cursor_by sc cursor g = cursor_after sc.takes_parts sc.protection.tree.now (gives_by sc (in_second sc g)) (usage_of sc.protection.counters.now) sc.protection.target.0 cursor g
 
 -- the group is at or below the target, and has a page to give
 pub record IsGiver (sc : ScanControl) (low_reclaim : Bool) (g : ℕ) : Type 0 where

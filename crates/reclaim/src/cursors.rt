@@ -1,9 +1,11 @@
 //! The cursors of all targets.
 
-ghost use Rattle.std.specs.Prelude.{◌≡◌, ◌+◌, ◌<◌, ◌≤◌, ◌++◌, ◌∷◌, [], true, false, length, slice_set, Some, None, IfSome, IfNone, IfOk, OnOk, OnErr, IsOk};
-ghost use Rattle.machine.specs.Order.{served_first, cursor_at};
-ghost use Rattle.reclaim.specs.Pass.{gives_by, asked_by, IsGiver, GivesNone};
+ghost use Rattle.std.specs.Prelude.{◌≡◌, ◌+◌, ◌<◌, ◌≤◌, ◌++◌, ◌∷◌, [], true, false, length, slice_set, Some, IfSome, IfNone, IfOk, OnOk, OnErr, IsOk};
+ghost use Rattle.machine.specs.Order.{served_first, no_cursor, cursor_at};
+ghost use Rattle.machine.specs.Tree.{is_live, under};
+ghost use Rattle.reclaim.specs.Pass.{gives_by, asked_by, cursor_by, IsGiver, GivesNone};
 
+use crate::cursor::Cursor;
 use crate::scan_control::ScanControl;
 use machine::id::GroupId;
 use std::alloc::{AllocError, Global};
@@ -19,37 +21,36 @@ pub struct Served {
 }
 
 /// For each group, as a reclaim's target, the group that was served last for it (kernel:
-/// `struct mem_cgroup_reclaim_iter`).
+/// `struct mem_cgroup_reclaim_iter`), and how many pages more that group gives in its turn.
 ///
-/// A contract sees the numbers of those groups as a list by the targets' numbers, and for how many
-/// further targets there is memory.
+/// A contract sees these as a list by the targets' numbers, and for how many further targets there is
+/// memory.
 #[derive(Drop)]
 pub struct Cursors {
-    /// By target: the group that was served last, or `None` if none was.
-    last: Vec<Option<GroupId>>,
+    /// By target: whose turn it is.
+    turns: Vec<Cursor>,
 }
 
 impl Model for Cursors {
     ghost use Rattle.std.specs.Prelude.{◌-◌, map, vec_len, vec_capacity};
-    ghost use Rattle.group_tree.specs.Tables.{number};
-    ghost use Rattle.reclaim.specs.Cursors.{CursorsOf};
+    ghost use Rattle.reclaim.specs.Cursors.{CursorsOf, cursor_of};
 
     ghost Value = { CursorsOf };
 
     ghost view = { λ c. record {
-      cursors = map number c.last.items;
-      room = vec_capacity c.last - vec_len c.last;
+      cursors = map cursor_of c.turns.items;
+      room = vec_capacity c.turns - vec_len c.turns;
     } };
 }
 
 impl Cursors {
     /// Only the root, for which none was served. `AllocError` if there is no memory for it.
     pub fn new(alloc: Global) -> Result<Self, AllocError>
-        ensures { IfOk result (λ c. c.cursors ≡ None ∷ []) }
+        ensures { IfOk result (λ c. c.cursors ≡ no_cursor ∷ []) }
     {
-        let mut last = Vec::with_capacity(alloc, 1)?;
-        last.push_reserved(None);
-        Ok(Cursors { last })
+        let mut turns = Vec::with_capacity(alloc, 1)?;
+        turns.push_reserved(Cursor::new());
+        Ok(Cursors { turns })
     }
 
     /// Reserves the memory for another target. `AllocError` if memory runs out. The cursors do not
@@ -60,22 +61,22 @@ impl Cursors {
         ensures succeeds { 0 < self.old.room → IsOk result }
         ensures kept { self.old.room ≤ self.new.room }
     {
-        self.last.reserve(1)
+        self.turns.reserve(1)
     }
 
     /// Adds a target for which no group was served. [`Cursors::reserve`] reserved its memory.
     pub fn add_reserved(&mut self)
         requires room { 0 < self.old.room }
-        ensures cursors { self.new.cursors ≡ self.old.cursors ++ None ∷ [] }
+        ensures cursors { self.new.cursors ≡ self.old.cursors ++ no_cursor ∷ [] }
         ensures room { self.new.room + 1 ≡ self.old.room }
     {
-        self.last.push_reserved(None);
+        self.turns.push_reserved(Cursor::new());
     }
 
     /// Adds a target for which no group was served. `AllocError` if there is no memory for it, and
     /// then the cursors do not change.
     pub fn add(&mut self) -> Result<(), AllocError>
-        ensures cursors { OnOk result (self.new.cursors ≡ self.old.cursors ++ None ∷ []) }
+        ensures cursors { OnOk result (self.new.cursors ≡ self.old.cursors ++ no_cursor ∷ []) }
         ensures err { OnErr result (self.new.cursors ≡ self.old.cursors) }
         ensures succeeds { 0 < self.old.room → IsOk result }
     {
@@ -89,10 +90,10 @@ impl Cursors {
     /// target (kernel: invalidate_reclaim_iterators).
     pub fn remove(&mut self, group: GroupId)
         requires { group.0 < length self.old.cursors }
-        ensures cursors { self.new.cursors ≡ slice_set self.old.cursors group.0 None }
+        ensures cursors { self.new.cursors ≡ slice_set self.old.cursors group.0 no_cursor }
         ensures room { self.new.room ≡ self.old.room }
     {
-        self.last[group.0 as usize] = None;
+        self.turns[group.0 as usize] = Cursor::new();
     }
 
     /// The group that the reclaim of the target evicts the next page from. Nothing changes. `None` if
@@ -104,7 +105,7 @@ impl Cursors {
     pub fn next_group(&self, scan: ScanControl<'_, '_, '_>) -> Option<Served>
         requires { scan.protection.target.0 < length self.now.cursors }
         // It is the next group in the order of the pass that finds it.
-        ensures group { IfSome result (λ s. served_first scan.entry.heeds_age scan.entry.protection.tree.now (asked_by scan.entry true s.low_reclaim) (gives_by scan.entry s.low_reclaim) scan.entry.protection.target.0 (cursor_at self.now.cursors scan.entry.protection.target.0) ≡ Some s.group.0) }
+        ensures group { IfSome result (λ s. served_first scan.entry.heeds_age scan.entry.takes_parts scan.entry.protection.tree.now (asked_by scan.entry true s.low_reclaim) (gives_by scan.entry s.low_reclaim) scan.entry.protection.target.0 (cursor_at self.now.cursors scan.entry.protection.target.0) ≡ Some s.group.0) }
         // Groups within their low are included only if no other group has a page to give.
         ensures spared { IfSome result (λ s. s.low_reclaim ≡ true → GivesNone scan.entry false) }
         // A group is found exactly if one has a page to evict.
@@ -112,27 +113,30 @@ impl Cursors {
         ensures none { IfNone result (GivesNone scan.entry true) }
     {
         scan.protection.tree.groups_form_a_tree();
-        let last = self.last[scan.protection.target.0 as usize];
-        if let Some(group) = scan.served(false, last) {
+        let turn = self.turns[scan.protection.target.0 as usize];
+        if let Some(group) = scan.served(false, turn) {
             return Some(Served {
                 group,
                 low_reclaim: false,
             });
         }
-        let group = scan.served(true, last)?;
+        let group = scan.served(true, turn)?;
         Some(Served {
             group,
             low_reclaim: true,
         })
     }
 
-    /// The reclaim of the target evicts a page of the group, and the target's cursor moves to the
-    /// group. Allocates no memory.
-    pub fn serve(&mut self, target: GroupId, group: GroupId)
-        requires cursor { target.0 < length self.old.cursors }
-        ensures cursors { self.new.cursors ≡ slice_set self.old.cursors target.0 (Some group.0) }
+    /// The reclaim evicts a page of the group, and the target's cursor moves to the group. If the reclaim takes
+    /// parts, the group's turn goes on or begins. Allocates no memory.
+    pub fn serve(&mut self, scan: ScanControl<'_, '_, '_>, group: GroupId)
+        requires cursor { scan.protection.target.0 < length self.old.cursors }
+        requires live { is_live scan.protection.tree.now group.0 ≡ true }
+        requires under { under scan.protection.tree.now scan.protection.target.0 group.0 ≡ true }
+        ensures cursors { self.new.cursors ≡ slice_set self.old.cursors scan.entry.protection.target.0 (cursor_by scan.entry (cursor_at self.old.cursors scan.entry.protection.target.0) group.0) }
         ensures room { self.new.room ≡ self.old.room }
     {
-        self.last[target.0 as usize] = Some(group);
+        let target = scan.protection.target.0 as usize;
+        self.turns[target] = scan.turn_after(self.turns[target], group);
     }
 }

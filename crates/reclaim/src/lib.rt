@@ -8,15 +8,19 @@
 //!    that group. Therefore no group whose pages it may evict loses a second page before each of the
 //!    others had its turn. If no group was served yet, or if that group was removed, the pass
 //!    begins at the target.
-//! 3. A pass skips a group while its `memory.min` protects it from a reclaim of the target, or if
+//! 3. If the reclaim takes parts, a group gives more than one page in its turn: as many as its size has
+//!    units, to the nearest, and at most a fourth of its pages. The unit is the size of the least group that
+//!    has one to give, and at least a sixteenth of the greatest. It is set when a round begins, which is when
+//!    the walk is back at the target. A group that has no page to give ends its turn.
+//! 4. A pass skips a group while its `memory.min` protects it from a reclaim of the target, or if
 //!    it has no reclaimable page. The first pass also skips the groups that their `memory.low` protects.
 //!    A second pass visits these too, if the first finds no group. Both begin after the group that
 //!    was served last. If age is heeded, a pass that visits only the groups with an old page of a
 //!    file, one that is not marked, comes before each of the two.
-//! 4. A page can be evicted only if there is a place for it. A group therefore loses anonymous pages only
+//! 5. A page can be evicted only if there is a place for it. A group therefore loses anonymous pages only
 //!    if a swap block is free; it can always lose pages of files.
-//! 5. The generation lists of the served group determine the page: the crate `eviction` picks it.
-//! 6. The lists and counts of the groups determine which one is served. The choice changes nothing. The
+//! 6. The generation lists of the served group determine the page: the crate `eviction` picks it.
+//! 7. The lists and counts of the groups determine which one is served. The choice changes nothing. The
 //!    target's cursor moves when the group is served.
 //!
 //! For example, `/p`, `/p/a` and `/q` have pages, and are below the root in this order:
@@ -34,6 +38,8 @@
 pub use cursors::{Cursors, Served};
 pub use scan_control::ScanControl;
 
+mod cursor;
 mod cursors;
 mod pass;
 mod scan_control;
+mod turn;

@@ -21,6 +21,8 @@ pub struct ScanControl<'t, 'c, 'g> {
     pub swap_free: bool,
     /// Whether the groups with an old page of a file are asked before all others.
     pub heeds_age: bool,
+    /// Whether a group gives a part of its pages in its turn, and not one page.
+    pub takes_parts: bool,
     /// The target is live.
     pub ghost live: { is_live protection.tree.now protection.target.0 ≡ true },
     /// Each group has lists.

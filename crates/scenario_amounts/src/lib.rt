@@ -1,8 +1,8 @@
 //! Numbers and sizes of scenarios, as people read them.
 #![tactic(auto)]
 
+use drafts::Draft;
 use scenario_words::amount::PageSize;
-use std::alloc::AllocError;
 
 const SCALES: [u64; 7] = [
     1_000_000_000_000_000_000,
@@ -18,18 +18,17 @@ const SCALES: [u64; 7] = [
 const MIB_PAGE: u64 = 65_536;
 
 /// Adds a number, with a comma before each three digits.
-pub fn add_number(text: &mut String, number: u64) -> Result<(), AllocError> {
+pub fn add_number(text: &mut Draft, number: u64) {
     let mut begun = false;
     for scale in SCALES {
         let part = number.checked_div(scale).unwrap_or(0) % 1_000;
         if begun {
-            write!(text, ",{part:03}")?;
+            write!(text, ",{part:03}");
         } else if part > 0 || scale == 1 {
-            write!(text, "{part}")?;
+            text.number(part);
             begun = true;
         }
     }
-    Ok(())
 }
 
 /// The unit of sizes.
@@ -78,34 +77,41 @@ pub fn bytes_of(page: PageSize, pages: u64) -> u64 {
 }
 
 /// Adds the size of so many pages, without the unit.
-pub fn add_size(text: &mut String, page: PageSize, pages: u64) -> Result<(), AllocError> {
+pub fn add_size(text: &mut Draft, page: PageSize, pages: u64) {
     let bytes = bytes_of(page, pages);
     match Unit::of(page) {
         Unit::Kib => add_number(text, bytes / 1_024),
         Unit::Mib => {
             let tenths = tenths(bytes);
-            add_number(text, tenths / 10)?;
-            write!(text, ".{}", tenths % 10)
+            add_number(text, tenths / 10);
+            text.text(".");
+            text.number(tenths % 10);
         }
     }
 }
 
 /// Adds the size of so many pages, with the unit.
-pub fn add_size_in_unit(text: &mut String, page: PageSize, pages: u64) -> Result<(), AllocError> {
-    add_size(text, page, pages)?;
-    write!(text, " {}", Unit::of(page).name())
+pub fn add_size_in_unit(text: &mut Draft, page: PageSize, pages: u64) {
+    add_size(text, page, pages);
+    text.text(" ");
+    text.text(Unit::of(page).name());
 }
 
 /// Adds spaces up to a width, after a text with so many characters.
-pub fn add_gap(text: &mut String, width: usize, characters: usize) -> Result<(), AllocError> {
+pub fn add_gap(text: &mut Draft, width: usize, characters: usize) {
     for _ in characters..width {
-        text.push(' ')?;
+        text.text(" ");
     }
-    Ok(())
 }
 
 /// Adds a cell at the right of a column of this width.
-pub fn add_cell(text: &mut String, width: usize, cell: &str) -> Result<(), AllocError> {
-    add_gap(text, width, cell.chars().count())?;
-    text.push_str(cell)
+pub fn add_cell(text: &mut Draft, width: usize, cell: &str) {
+    add_gap(text, width, cell.chars().count());
+    text.text(cell);
+}
+
+/// The same with a cell that was written as a draft.
+pub fn add_drafted_cell(text: &mut Draft, width: usize, cell: &Draft) {
+    add_gap(text, width, cell.characters());
+    text.add(cell);
 }

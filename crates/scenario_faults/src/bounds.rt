@@ -1,11 +1,12 @@
 //! What is said of a size that is out of its bounds.
 
+use drafts::Draft;
 use scenario_amounts::{add_number, bytes_of};
 use scenario_words::amount::{PageSize, Purpose};
 use scenario_words::header::Header;
 use scenario_words::word::Filled;
 use scenarios::sizes::{Size, read_size};
-use std::alloc::AllocError;
+use std::alloc::{AllocError, Global};
 
 /// The sizes that a page may have.
 const PAGES: [u64; 15] = [
@@ -44,14 +45,15 @@ const MOST_BLOCKS: u64 = 131_072;
 const MOST_DRAWS: u64 = 1_000_000;
 
 /// Adds bytes in the largest unit in which they are a whole number.
-fn add_bytes(text: &mut String, bytes: u64) -> Result<(), AllocError> {
+fn add_bytes(text: &mut Draft, bytes: u64) {
     for (unit, letter) in UNITS {
         let count = bytes.checked_div(unit).unwrap_or(0);
         if count > 0 && count.saturating_mul(unit) == bytes {
-            return write!(text, "{count}{letter}");
+            write!(text, "{count}{letter}");
+            return;
         }
     }
-    write!(text, "{bytes}")
+    text.number(bytes);
 }
 
 /// The smallest page of which so many have at least these bytes.
@@ -77,41 +79,41 @@ fn bytes_in(size: Size, page: PageSize) -> u64 {
 }
 
 /// The size of a page.
-fn add_page(text: &mut String, size: Size) -> Result<(), AllocError> {
+fn add_page(text: &mut Draft, size: Size) {
     let bytes = bytes_in(size, PageSize::of_script());
     let page = page_for(bytes, 1).unwrap_or(1 << 26);
-    text.push_str("not the size of a page; write ")?;
-    add_bytes(text, page)?;
-    text.push_str(", or another power of two from 4K to 64M")
+    text.text("not the size of a page; write ");
+    add_bytes(text, page);
+    text.text(", or another power of two from 4K to 64M");
 }
 
 /// Adds how many pages would be too many.
-fn add_most(text: &mut String, page: PageSize, most: u64) -> Result<(), AllocError> {
-    text.push_str("more than ")?;
-    add_number(text, most)?;
-    text.push_str(" pages of ")?;
-    add_bytes(text, page.bytes)
+fn add_most(text: &mut Draft, page: PageSize, most: u64) {
+    text.text("more than ");
+    add_number(text, most);
+    text.text(" pages of ");
+    add_bytes(text, page.bytes);
 }
 
 /// Adds the page with which so many bytes are few enough pages, if there is one.
-fn add_larger(text: &mut String, page: Option<u64>) -> Result<(), AllocError> {
+fn add_larger(text: &mut Draft, page: Option<u64>) {
     match page {
-        None => text.push_str("; write a smaller size"),
+        None => text.text("; write a smaller size"),
         Some(page) => {
-            text.push_str("; write \"page ")?;
-            add_bytes(text, page)?;
-            text.push_str("\" in the header, or a smaller size")
+            text.text("; write \"page ");
+            add_bytes(text, page);
+            text.text("\" in the header, or a smaller size");
         }
     }
 }
 
 /// The memory or the swap.
-fn add_memory(text: &mut String, page: PageSize, size: Size) -> Result<(), AllocError> {
-    add_most(text, page, MOST_PAGES)?;
-    text.push_str(", which are ")?;
-    add_bytes(text, bytes_of(page, MOST_PAGES))?;
+fn add_memory(text: &mut Draft, page: PageSize, size: Size) {
+    add_most(text, page, MOST_PAGES);
+    text.text(", which are ");
+    add_bytes(text, bytes_of(page, MOST_PAGES));
     match size {
-        Size::Pages(_) => text.push_str("; write a smaller size"),
+        Size::Pages(_) => text.text("; write a smaller size"),
         Size::Bytes { .. } => add_larger(text, page_for(bytes_in(size, page), MOST_PAGES)),
     }
 }
@@ -125,14 +127,14 @@ fn blocks_of(header: &Header) -> u64 {
     blocks
 }
 
-fn add_file(text: &mut String, header: &Header, size: Size) -> Result<(), AllocError> {
+fn add_file(text: &mut Draft, header: &Header, size: Size) {
     let page = header.page;
-    add_most(text, page, MOST_BLOCKS)?;
-    text.push_str(" for the swap and all files")?;
+    add_most(text, page, MOST_BLOCKS);
+    text.text(" for the swap and all files");
     let before = bytes_of(page, blocks_of(header));
     let bytes = before.saturating_add(bytes_in(size, page));
     match size {
-        Size::Pages(_) => text.push_str("; write a smaller size"),
+        Size::Pages(_) => text.text("; write a smaller size"),
         Size::Bytes { .. } => add_larger(text, page_for(bytes, MOST_BLOCKS)),
     }
 }
@@ -147,14 +149,10 @@ fn purpose_of(first: &str) -> Purpose {
 }
 
 /// Adds what is wrong with a size of the line with these words, and what to write.
-pub fn add_bounds(
-    text: &mut String,
-    header: &Header,
-    words: &[Filled],
-    word: &Filled,
-) -> Result<(), AllocError> {
+fn add_bound(text: &mut Draft, header: &Header, words: &[Filled], word: &Filled) {
     let Ok(size) = read_size(word.text()) else {
-        return text.push_str("this size is out of its bounds");
+        text.text("this size is out of its bounds");
+        return;
     };
     let page = header.page;
     let first = match words.first() {
@@ -162,18 +160,29 @@ pub fn add_bounds(
         Some(first) => first.text(),
     };
     if first == "page" {
-        return add_page(text, size);
+        add_page(text, size);
+    } else if page.pages_of(size, purpose_of(first)) == 0 {
+        text.text("less than a page; write at least ");
+        add_bytes(text, page.bytes);
+    } else if first == "memory" || first == "swap" {
+        add_memory(text, page, size);
+    } else if first == "file" {
+        add_file(text, header, size);
+    } else {
+        add_most(text, page, MOST_DRAWS);
+        text.text(" in one line; write a smaller size");
     }
-    if page.pages_of(size, purpose_of(first)) == 0 {
-        text.push_str("less than a page; write at least ")?;
-        return add_bytes(text, page.bytes);
-    }
-    match first {
-        "memory" | "swap" => add_memory(text, page, size),
-        "file" => add_file(text, header, size),
-        _ => {
-            add_most(text, page, MOST_DRAWS)?;
-            text.push_str(" in one line; write a smaller size")
-        }
-    }
+}
+
+/// The same, added to a text.
+pub fn add_bounds(
+    alloc: Global,
+    text: &mut String,
+    header: &Header,
+    words: &[Filled],
+    word: &Filled,
+) -> Result<(), AllocError> {
+    let mut draft = Draft::new(alloc);
+    add_bound(&mut draft, header, words, word);
+    text.push_str(draft.finish()?.as_str())
 }

@@ -118,7 +118,7 @@ fn add_cause(
     match cause {
         Cause::NotExpected => add_expected(alloc, text, words, place, word),
         Cause::Size => add_size_fault(alloc, text, word.text(), may_be_part(words, place)),
-        Cause::SizeBounds => add_bounds(text, &scene.header, words, word),
+        Cause::SizeBounds => add_bounds(alloc, text, &scene.header, words, word),
         Cause::NoGroup => add_no_group(alloc, text, scene, words, word),
         Cause::NoTask => {
             text.push_str("there is no such task")?;

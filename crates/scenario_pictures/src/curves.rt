@@ -1,10 +1,12 @@
 //! Curves of what groups are charged with.
 
-use crate::labels::{Label, add_label, draw_labels, last_part};
 use crate::rows::Chosen;
-use crate::sheet::{RIGHT, Sheet};
+use crate::sheet::Sheet;
 use crate::story::Story;
-use pictures::{Pen, escaped};
+use drafts::Draft;
+use pictures::{
+    Label, Pen, RIGHT, add_attribute, add_escaped, add_label, add_last_part, draw_labels,
+};
 use scenario_amounts::add_size_in_unit;
 use std::alloc::AllocError;
 
@@ -55,9 +57,8 @@ fn colour_of(group: usize) -> &'static str {
 
 /// The path of a curve of the group at this place: of its charge, or of its max. It changes in the middle of a row, and
 /// goes up to the peak there.
-fn path_of(sheet: Sheet, story: &Story, group: usize, is_max: bool) -> Result<String, AllocError> {
-    let alloc = sheet.alloc;
-    let mut pen = Pen::new(alloc);
+fn path_of(sheet: Sheet, story: &Story, group: usize, is_max: bool) -> Draft {
+    let mut pen = Pen::new(sheet.alloc);
     for (row, told) in story.rows.iter().enumerate() {
         let x = sheet.across.middle(row);
         let (pages, peak) = match told.level(group) {
@@ -67,49 +68,46 @@ fn path_of(sheet: Sheet, story: &Story, group: usize, is_max: bool) -> Result<St
         };
         match pages {
             Some(pages) if pages <= sheet.most => {
-                pen.go(alloc, x, sheet.down(peak.max(pages)))?;
-                pen.go(alloc, x, sheet.down(pages))?;
+                pen.go(x, sheet.down(peak.max(pages)));
+                pen.go(x, sheet.down(pages));
             }
-            _ => pen.lift(alloc, x)?,
+            _ => pen.lift(x),
         }
     }
-    pen.lift(alloc, RIGHT)?;
-    Ok(pen.path)
+    pen.lift(RIGHT);
+    pen.path
 }
 
 /// Draws the curve of a group's max.
-fn draw_max(out: &mut String, sheet: Sheet, story: &Story, group: usize) -> Result<(), AllocError> {
-    let path = path_of(sheet, story, group, true)?;
+fn draw_max(out: &mut Draft, sheet: Sheet, story: &Story, group: usize) {
+    let path = path_of(sheet, story, group, true);
     if path.is_empty() {
-        return Ok(());
+        return;
     }
-    let colour = colour_of(group);
-    write!(out, "<path d=\"{path}\" fill=\"none\" stroke=\"{colour}\"")?;
-    writeln!(out, " stroke-dasharray=\"1 3\" opacity=\"0.7\"/>")
+    out.text("<path d=\"");
+    out.add(&path);
+    out.text("\" fill=\"none\"");
+    add_attribute(out, "stroke", colour_of(group));
+    out.text(" stroke-dasharray=\"1 3\" opacity=\"0.7\"/>\n");
 }
 
 /// Draws the curve of a group's charge.
-fn draw_current(
-    out: &mut String,
-    sheet: Sheet,
-    story: &Story,
-    chosen: &Chosen,
-    group: usize,
-) -> Result<(), AllocError> {
-    let path = path_of(sheet, story, group, false)?;
+fn draw_current(out: &mut Draft, sheet: Sheet, story: &Story, chosen: &Chosen, group: usize) {
+    let path = path_of(sheet, story, group, false);
     if path.is_empty() {
-        return Ok(());
+        return;
     }
-    let colour = colour_of(group);
-    let dashes = DASHES[group % DASHES.len()];
-    let name = escaped(sheet.alloc, chosen.path.as_str())?;
-    write!(
-        out,
-        "<path d=\"{path}\" fill=\"none\" stroke=\"{colour}\" stroke-width=\"2.5\""
-    )?;
-    write!(out, " stroke-dasharray=\"{dashes}\"><title>{name}, peak ")?;
-    add_size_in_unit(out, sheet.page, story.peak(group))?;
-    out.push_str("</title></path>\n")
+    out.text("<path d=\"");
+    out.add(&path);
+    out.text("\" fill=\"none\"");
+    add_attribute(out, "stroke", colour_of(group));
+    add_attribute(out, "stroke-width", "2.5");
+    add_attribute(out, "stroke-dasharray", DASHES[group % DASHES.len()]);
+    out.text("><title>");
+    add_escaped(out, chosen.path.as_str());
+    out.text(", peak ");
+    add_size_in_unit(out, sheet.page, story.peak(group));
+    out.text("</title></path>\n");
 }
 
 /// The last level of the group at this place, and whether it is that of the last row.
@@ -126,49 +124,38 @@ fn last_current(story: &Story, group: usize) -> Option<(u64, bool)> {
 }
 
 /// The label of the group at this place, if it was there.
-fn label_of(
-    sheet: Sheet,
-    story: &Story,
-    chosen: &Chosen,
-    group: usize,
-) -> Result<Option<Label>, AllocError> {
-    let Some((pages, is_last)) = last_current(story, group) else {
-        return Ok(None);
-    };
-    let mut text = last_part(sheet.alloc, chosen.path.as_str(), MOST_CHARACTERS)?;
+fn label_of(sheet: Sheet, story: &Story, chosen: &Chosen, group: usize) -> Option<Label> {
+    let (pages, is_last) = last_current(story, group)?;
+    let mut text = Draft::new(sheet.alloc);
+    add_last_part(&mut text, chosen.path.as_str(), MOST_CHARACTERS);
     if is_last {
-        text.push(' ')?;
-        add_size_in_unit(&mut text, sheet.page, pages)?;
+        text.text(" ");
+        add_size_in_unit(&mut text, sheet.page, pages);
     } else {
-        text.push_str(" (removed)")?;
+        text.text(" (removed)");
     }
-    let label = Label::new(
-        sheet.alloc,
-        sheet.down(pages),
-        colour_of(group),
-        text.as_str(),
-    )?;
-    Ok(Some(label))
+    Some(Label::new(sheet.down(pages), colour_of(group), text))
 }
 
 /// Draws a curve for each group, with its name at its right end.
 pub fn draw_curves(
-    out: &mut String,
+    out: &mut Draft,
     sheet: Sheet,
     story: &Story,
     groups: &[Chosen],
 ) -> Result<(), AllocError> {
     sheet.add_sizes(out)?;
-    sheet.add_border(out, story.rows.as_slice())?;
+    sheet.add_border(out, story.rows.as_slice());
     let mut labels = Vec::new(sheet.alloc);
     for group in 0..groups.len() {
-        draw_max(out, sheet, story, group)?;
+        draw_max(out, sheet, story, group);
     }
     for (group, chosen) in groups.iter().enumerate() {
-        draw_current(out, sheet, story, chosen, group)?;
-        if let Some(label) = label_of(sheet, story, chosen, group)? {
+        draw_current(out, sheet, story, chosen, group);
+        if let Some(label) = label_of(sheet, story, chosen, group) {
             add_label(&mut labels, label)?;
         }
     }
-    draw_labels(sheet.alloc, out, labels, sheet.bottom)
+    draw_labels(out, labels, sheet.bottom);
+    Ok(())
 }

@@ -6,7 +6,6 @@
 mod bands;
 mod csv;
 mod curves;
-mod labels;
 mod measures;
 mod moments;
 mod object;
@@ -19,7 +18,7 @@ mod sheet;
 mod story;
 mod usage;
 
-pub use csv::{add_csv_cell, csv_head, csv_row};
+pub use csv::{add_csv_cell, add_csv_names, csv_head, csv_row};
 pub use curves::MOST_CURVES;
 pub use measures::{Meter, Moved, bump};
 pub use object::Object;

@@ -1,11 +1,11 @@
 //! How many pages a run has moved.
 
+use drafts::Draft;
 use machine::entry::Entry;
 use machine::event::Event;
 use machine::reply::Reply;
 use scenario_amounts::{Unit, add_size};
 use scenario_words::amount::PageSize;
-use std::alloc::AllocError;
 
 /// Pages that were read in, written out and dropped.
 #[derive(Clone, Copy, Default)]
@@ -56,13 +56,15 @@ impl Moved {
     }
 
     /// Adds the numbers with their names.
-    pub fn add(self, text: &mut String, page: PageSize) -> Result<(), AllocError> {
-        add_size(text, page, self.read)?;
-        write!(text, " {} read in, ", Unit::of(page).name())?;
-        add_size(text, page, self.written)?;
-        text.push_str(" written out, ")?;
-        add_size(text, page, self.dropped)?;
-        text.push_str(" dropped")
+    pub fn add(self, text: &mut Draft, page: PageSize) {
+        add_size(text, page, self.read);
+        text.text(" ");
+        text.text(Unit::of(page).name());
+        text.text(" read in, ");
+        add_size(text, page, self.written);
+        text.text(" written out, ");
+        add_size(text, page, self.dropped);
+        text.text(" dropped");
     }
 }
 

@@ -1,273 +1,61 @@
 //! What happened at a row, above the curves: phases that begin, and deaths.
 
-use crate::labels::first_part;
 use crate::printing::{add_names, add_place};
-use crate::sheet::{Across, WIDTH};
+use crate::sheet::Across;
 use crate::story::{Story, Told};
-use pictures::{escaped, pixels};
+use drafts::Draft;
+use pictures::{Moments, Sign, add_escaped};
 use std::alloc::{AllocError, Global};
-
-/// How wide a character is, at most.
-const CHARACTER: u64 = 66;
-
-/// How high a lane is.
-const LANE: u64 = 150;
-
-/// How many characters of a text are shown, at most.
-const MOST_CHARACTERS: usize = 44;
 
 /// The most tasks that the text of a cross names.
 const MOST_NAMED: usize = 3;
 
-/// Texts are in lanes, so that none covers another.
-#[derive(Drop)]
-struct Lanes {
-    /// The right end of the last text of each lane.
-    ends: Vec<u64>,
-    most: usize,
-}
-
-/// A text at a row.
-#[derive(Drop)]
-struct Moment {
-    /// The place of the row, and where the text begins.
-    across: u64,
-    begin: u64,
-    /// The lane of the text. `None` if no lane has room for it.
-    lane: Option<usize>,
-    text: String,
-    title: String,
-}
-
-/// What is drawn at a moment, above the curves and through them.
-#[derive(Clone, Copy)]
-enum Sign {
-    /// A dashed line.
-    Line,
-    /// A cross, with a thin line below it.
-    Cross,
-}
-
-/// All moments of a kind, and how many lanes they take.
-#[derive(Drop)]
-pub struct Moments {
-    all: Vec<Moment>,
-    lanes: usize,
-    sign: Sign,
-}
-
-impl Sign {
-    fn colour(self) -> &'static str {
-        match self {
-            Sign::Line => "#777",
-            Sign::Cross => "#d62728",
-        }
-    }
-
-    fn colour_of_text(self) -> &'static str {
-        match self {
-            Sign::Line => "#333",
-            Sign::Cross => "#b01515",
-        }
-    }
-
-    /// How far it begins above the base line of its text.
-    fn height(self) -> u64 {
-        match self {
-            Sign::Line => 90,
-            Sign::Cross => 40,
-        }
-    }
-
-    /// Draws it at `x`, from `high` down to `low`.
-    fn draw(self, out: &mut String, x: &str, high: &str, low: &str) -> Result<(), AllocError> {
-        match self {
-            Sign::Line => write!(
-                out,
-                "<path d=\"M{x} {high}V{low}\" stroke-dasharray=\"4 3\"/></g>"
-            ),
-            Sign::Cross => {
-                write!(out, "<path d=\"M{x} {high}V{low}\" opacity=\"0.35\"/>")?;
-                let cross = "m-4 -4l8 8m0 -8l-8 8";
-                write!(
-                    out,
-                    "<path d=\"M{x} {high}{cross}\" stroke-width=\"2\"/></g>"
-                )
-            }
-        }
-    }
-}
-
-impl Lanes {
-    fn new(alloc: Global, most: usize) -> Lanes {
-        Lanes {
-            ends: Vec::new(alloc),
-            most,
-        }
-    }
-
-    /// A lane with room from one place to another.
-    fn take(&mut self, begin: u64, end: u64) -> Result<Option<usize>, AllocError> {
-        for (lane, last) in self.ends.iter_mut().enumerate() {
-            if *last <= begin {
-                *last = end;
-                return Ok(Some(lane));
-            }
-        }
-        let lane = self.ends.len();
-        if lane < self.most {
-            self.ends.push(end)?;
-            return Ok(Some(lane));
-        }
-        Ok(None)
-    }
-
-    /// A moment with this text at this place.
-    fn moment(
-        &mut self,
-        alloc: Global,
-        across: u64,
-        text: &str,
-        title: &str,
-    ) -> Result<Moment, AllocError> {
-        let part = first_part(alloc, text, MOST_CHARACTERS)?;
-        let width = (part.chars().count() as u64).saturating_mul(CHARACTER);
-        let begin = across.saturating_add(80).min(WIDTH.saturating_sub(width));
-        let end = begin.saturating_add(width).saturating_add(80);
-        let first = begin.min(across.saturating_sub(60));
-        Ok(Moment {
-            across,
-            begin,
-            lane: self.take(first, end)?,
-            text: escaped(alloc, part.as_str())?,
-            title: escaped(alloc, title)?,
-        })
-    }
-}
-
 /// The phases that begin.
 pub fn phases_of(alloc: Global, story: &Story, across: Across) -> Result<Moments, AllocError> {
-    let mut lanes = Lanes::new(alloc, 3);
-    let mut all = Vec::new(alloc);
+    let mut phases = Moments::new(alloc, Sign::Line, 3);
     for mark in story.marks.iter() {
         let name = mark.name.as_str();
-        all.push(lanes.moment(alloc, across.begin(mark.row), name, name)?)?;
+        let mut title = Draft::new(alloc);
+        add_escaped(&mut title, name);
+        phases.add(alloc, across.begin(mark.row), name, title)?;
     }
-    Ok(Moments {
-        all,
-        lanes: lanes.ends.len(),
-        sign: Sign::Line,
-    })
+    Ok(phases)
 }
 
 /// The names of the first of those who died, and how many more there are.
 fn named(alloc: Global, died: &[String]) -> Result<String, AllocError> {
-    let mut text = String::new(alloc);
-    add_names(&mut text, died.get(..MOST_NAMED).unwrap_or(died))?;
+    let mut text = Draft::new(alloc);
+    add_names(&mut text, died.get(..MOST_NAMED).unwrap_or(died));
     let more = died.len().saturating_sub(MOST_NAMED);
     if more > 0 {
-        write!(text, " and {more} more")?;
+        write!(text, " and {more} more");
     }
-    Ok(text)
+    text.finish()
 }
 
-/// The place of a row in which tasks died, and all of their names.
-fn title_of(alloc: Global, told: &Told) -> Result<String, AllocError> {
-    let mut title = String::new(alloc);
-    add_place(&mut title, told.place.line, told.place.rounds.as_slice())?;
-    title.push_str(": killed ")?;
-    add_names(&mut title, told.died.as_slice())?;
-    Ok(title)
+/// The place of a row in which tasks died, and all of their names, as markup.
+fn title_of(alloc: Global, told: &Told) -> Draft {
+    let mut title = Draft::new(alloc);
+    add_place(&mut title, told.place.line, told.place.rounds.as_slice());
+    title.text(": killed ");
+    for (place, name) in told.died.iter().enumerate() {
+        if place > 0 {
+            title.text(", ");
+        }
+        add_escaped(&mut title, name.as_str());
+    }
+    title
 }
 
 /// The rows in which tasks died.
 pub fn deaths_of(alloc: Global, story: &Story, across: Across) -> Result<Moments, AllocError> {
-    let mut lanes = Lanes::new(alloc, 5);
-    let mut all = Vec::new(alloc);
+    let mut deaths = Moments::new(alloc, Sign::Cross, 5);
     for (row, told) in story.rows.iter().enumerate() {
         if !told.died.is_empty() {
             let text = named(alloc, told.died.as_slice())?;
-            let title = title_of(alloc, told)?;
-            let middle = across.middle(row);
-            all.push(lanes.moment(alloc, middle, text.as_str(), title.as_str())?)?;
+            let title = title_of(alloc, told);
+            deaths.add(alloc, across.middle(row), text.as_str(), title)?;
         }
     }
-    Ok(Moments {
-        all,
-        lanes: lanes.ends.len(),
-        sign: Sign::Cross,
-    })
-}
-
-impl Moments {
-    /// How high their lanes are together.
-    pub fn height(&self) -> u64 {
-        (self.lanes as u64).saturating_mul(LANE)
-    }
-
-    /// The base line of the text of a moment, whose lanes begin at this height.
-    fn down(&self, moment: &Moment, top: u64) -> u64 {
-        let lane = match moment.lane {
-            None => self.lanes,
-            Some(lane) => lane.saturating_add(1),
-        };
-        top.saturating_add((lane as u64).saturating_mul(LANE))
-            .saturating_sub(40)
-    }
-
-    /// Draws the text of a moment, if a lane has room for it.
-    fn draw_text(
-        &self,
-        alloc: Global,
-        out: &mut String,
-        moment: &Moment,
-        down: u64,
-    ) -> Result<(), AllocError> {
-        if moment.lane.is_none() {
-            return Ok(());
-        }
-        let x = pixels(alloc, moment.begin)?;
-        let y = pixels(alloc, down)?;
-        let text = moment.text.as_str();
-        let colour = self.sign.colour_of_text();
-        write!(
-            out,
-            "<text x=\"{x}\" y=\"{y}\" fill=\"{colour}\">{text}</text>"
-        )
-    }
-
-    /// Draws the sign of a moment, with all of its text as a title, down to `low`.
-    fn draw_sign(
-        &self,
-        alloc: Global,
-        out: &mut String,
-        moment: &Moment,
-        down: u64,
-        low: &str,
-    ) -> Result<(), AllocError> {
-        let x = pixels(alloc, moment.across)?;
-        let high = pixels(alloc, down.saturating_sub(self.sign.height()))?;
-        let colour = self.sign.colour();
-        let title = moment.title.as_str();
-        write!(out, "<g stroke=\"{colour}\"><title>{title}</title>")?;
-        self.sign.draw(out, x.as_str(), high.as_str(), low)
-    }
-
-    /// Draws each with its text in the lanes, which begin at `top`, and its sign down to `bottom`.
-    pub fn draw(
-        &self,
-        alloc: Global,
-        out: &mut String,
-        top: u64,
-        bottom: u64,
-    ) -> Result<(), AllocError> {
-        let low = pixels(alloc, bottom)?;
-        for moment in self.all.iter() {
-            let down = self.down(moment, top);
-            self.draw_sign(alloc, out, moment, down, low.as_str())?;
-            self.draw_text(alloc, out, moment, down)?;
-            out.push('\n')?;
-        }
-        Ok(())
-    }
+    Ok(deaths)
 }

@@ -1,14 +1,14 @@
 //! The picture of a run.
 
-use crate::bands::{BAND, draw_bands};
+use crate::bands::draw_bands;
 use crate::curves::{MOST_CURVES, draw_curves, height_of};
-use crate::labels::first_part;
-use crate::moments::{Moments, deaths_of, phases_of};
+use crate::moments::{deaths_of, phases_of};
 use crate::rows::Chosen;
-use crate::sheet::{Across, LEFT, Sheet, WIDTH};
+use crate::sheet::{Across, Sheet};
 use crate::story::Story;
 use crate::usage::draw_frames;
-use pictures::{escaped, pixels};
+use drafts::Draft;
+use pictures::{BAND, LEFT, Moments, WIDTH, add_first_part, add_length, add_pixels};
 use scenario_words::header::Header;
 use std::alloc::{AllocError, Global};
 
@@ -84,52 +84,43 @@ fn layout_of(
 }
 
 /// Adds the title, which is cut if it is long.
-fn add_title(alloc: Global, out: &mut String, title: &str) -> Result<(), AllocError> {
-    let left = pixels(alloc, LEFT)?;
-    let part = first_part(alloc, title, MOST_CHARACTERS)?;
-    let title = escaped(alloc, part.as_str())?;
-    write!(out, "<text x=\"{left}\" y=\"24\" font-size=\"15\">")?;
-    writeln!(out, "memory.current: {title}</text>")
+fn add_title(out: &mut Draft, title: &str) {
+    out.text("<text");
+    add_length(out, "x", LEFT);
+    out.text(" y=\"24\" font-size=\"15\">memory.current: ");
+    let _shown = add_first_part(out, title, MOST_CHARACTERS);
+    out.text("</text>\n");
 }
 
 /// Adds the beginning: the size of the picture, and its title.
-fn first_lines(alloc: Global, title: &str, layout: Layout) -> Result<String, AllocError> {
-    let mut out = String::new(alloc);
-    let width = pixels(alloc, WIDTH)?;
-    let height = pixels(alloc, layout.foot.saturating_add(150))?;
-    write!(
-        out,
-        "<svg xmlns=\"http://www.w3.org/2000/svg\" viewBox=\"0 0 {width} {height}\""
-    )?;
-    writeln!(out, " font-family=\"sans-serif\" font-size=\"11\">")?;
-    writeln!(
-        out,
-        "<rect width=\"{width}\" height=\"{height}\" fill=\"#fff\"/>"
-    )?;
-    add_title(alloc, &mut out, title)?;
-    Ok(out)
+fn add_first_lines(out: &mut Draft, title: &str, layout: Layout) {
+    let height = layout.foot.saturating_add(150);
+    out.text("<svg xmlns=\"http://www.w3.org/2000/svg\" viewBox=\"0 0 ");
+    add_pixels(out, WIDTH);
+    out.text(" ");
+    add_pixels(out, height);
+    out.text("\" font-family=\"sans-serif\" font-size=\"11\">\n<rect");
+    add_length(out, "width", WIDTH);
+    add_length(out, "height", height);
+    out.text(" fill=\"#fff\"/>\n");
+    add_title(out, title);
 }
 
 /// Adds the last line, which says what is drawn.
-fn add_last_lines(alloc: Global, out: &mut String, layout: Layout) -> Result<(), AllocError> {
-    let left = pixels(alloc, LEFT)?;
-    let axis = pixels(alloc, layout.foot.saturating_sub(80))?;
-    let foot = pixels(alloc, layout.foot.saturating_add(80))?;
-    let what = if layout.are_bands {
+fn add_last_lines(out: &mut Draft, layout: Layout) {
+    out.text("<g fill=\"#555\"><text");
+    add_length(out, "x", LEFT);
+    add_length(out, "y", layout.foot.saturating_sub(80));
+    out.text(">Numbers at the bottom: the line of the scenario, and its round.</text>\n<text");
+    add_length(out, "x", LEFT);
+    add_length(out, "y", layout.foot.saturating_add(80));
+    out.text(">");
+    out.text(if layout.are_bands {
         "Darkness: how much of its memory.max a group uses, or of the machine if it has no max."
     } else {
         "Dots: memory.max. A spike is the most during a line; after it, curves show what is left."
-    };
-    let across = "Numbers at the bottom: the line of the scenario, and its round.";
-    writeln!(
-        out,
-        "<g fill=\"#555\"><text x=\"{left}\" y=\"{axis}\">{across}</text>"
-    )?;
-    writeln!(
-        out,
-        "<text x=\"{left}\" y=\"{foot}\">{what} Cross: tasks were killed.</text></g>"
-    )?;
-    out.push_str("</svg>\n")
+    });
+    out.text(" Cross: tasks were killed.</text></g>\n</svg>\n");
 }
 
 /// The picture of a run over its rows, as SVG. Up to eight groups are curves, with dots for `memory.max`. More groups
@@ -146,21 +137,17 @@ pub fn picture_of(
     let phases = phases_of(alloc, story, across)?;
     let deaths = deaths_of(alloc, story, across)?;
     let layout = layout_of(alloc, header, groups.len(), story, &phases, &deaths);
-    let mut out = first_lines(alloc, title, layout)?;
+    let mut out = Draft::new(alloc);
+    add_first_lines(&mut out, title, layout);
     if layout.are_bands {
-        draw_bands(
-            &mut out,
-            layout.groups,
-            story,
-            groups,
-            u64::from(header.frames),
-        )?;
+        let memory = u64::from(header.frames);
+        draw_bands(&mut out, layout.groups, story, groups, memory);
     } else {
         draw_curves(&mut out, layout.groups, story, groups)?;
     }
     draw_frames(&mut out, layout.frames, story, header)?;
-    phases.draw(alloc, &mut out, TOP, layout.frames.bottom)?;
-    deaths.draw(alloc, &mut out, layout.crosses, layout.frames.bottom)?;
-    add_last_lines(alloc, &mut out, layout)?;
-    Ok(out)
+    phases.draw(&mut out, TOP, layout.frames.bottom);
+    deaths.draw(&mut out, layout.crosses, layout.frames.bottom);
+    add_last_lines(&mut out, layout);
+    out.finish()
 }

@@ -1,35 +1,33 @@
 //! Places and names, in words.
 
-use std::alloc::AllocError;
+use drafts::Draft;
 
 /// Adds rounds, the outermost first, with points between them.
-pub fn add_rounds(text: &mut String, rounds: &[u32]) -> Result<(), AllocError> {
+pub fn add_rounds(text: &mut Draft, rounds: &[u32]) {
     for (depth, round) in rounds.iter().enumerate() {
         if depth > 0 {
-            text.push('.')?;
+            text.text(".");
         }
-        write!(text, "{round}")?;
+        text.number(u64::from(*round));
     }
-    Ok(())
 }
 
 /// Adds `line N`, and the rounds if there are any.
-pub fn add_place(text: &mut String, line: usize, rounds: &[u32]) -> Result<(), AllocError> {
-    write!(text, "line {line}")?;
-    if rounds.is_empty() {
-        return Ok(());
+pub fn add_place(text: &mut Draft, line: usize, rounds: &[u32]) {
+    text.text("line ");
+    text.number(line as u64);
+    if !rounds.is_empty() {
+        text.text(", round ");
+        add_rounds(text, rounds);
     }
-    text.push_str(", round ")?;
-    add_rounds(text, rounds)
 }
 
 /// Adds names, with commas between them.
-pub fn add_names(text: &mut String, names: &[String]) -> Result<(), AllocError> {
+pub fn add_names(text: &mut Draft, names: &[String]) {
     for (place, name) in names.iter().enumerate() {
         if place > 0 {
-            text.push_str(", ")?;
+            text.text(", ");
         }
-        text.push_str(name.as_str())?;
+        text.text(name.as_str());
     }
-    Ok(())
 }

@@ -2,18 +2,11 @@
 
 use crate::printing::add_rounds;
 use crate::story::Told;
-use pictures::{Scale, page_marks, pixels};
+use drafts::Draft;
+use pictures::{LEFT, RIGHT, Scale, add_length, add_pixels, add_point, page_marks};
 use scenario_amounts::add_size_in_unit;
 use scenario_words::amount::PageSize;
 use std::alloc::{AllocError, Global};
-
-/// The left end of the first row, and the right end of the last.
-pub const LEFT: u64 = 900;
-
-pub const RIGHT: u64 = 7500;
-
-/// The width of the picture.
-pub const WIDTH: u64 = 10_000;
 
 /// How many rows are named below, at most.
 const MOST_NAMES: usize = 12;
@@ -77,22 +70,22 @@ impl Sheet {
     }
 
     /// The line of a size, and its name.
-    fn add_size(self, out: &mut String, pages: u64) -> Result<(), AllocError> {
-        let left = pixels(self.alloc, LEFT)?;
-        let right = pixels(self.alloc, RIGHT)?;
-        let beside = pixels(self.alloc, LEFT.saturating_sub(60))?;
-        let y = pixels(self.alloc, self.down(pages))?;
-        write!(out, "<path d=\"M{left} {y}H{right}\" stroke=\"#e4e4e4\"/>")?;
-        write!(
-            out,
-            "<text x=\"{beside}\" y=\"{y}\" dy=\"4\" text-anchor=\"end\">"
-        )?;
-        add_size_in_unit(out, self.page, pages)?;
-        out.push_str("</text>\n")
+    fn add_size(self, out: &mut Draft, pages: u64) {
+        let y = self.down(pages);
+        out.text("<path d=\"");
+        add_point(out, "M", LEFT, y);
+        out.text("H");
+        add_pixels(out, RIGHT);
+        out.text("\" stroke=\"#e4e4e4\"/><text");
+        add_length(out, "x", LEFT.saturating_sub(60));
+        add_length(out, "y", y);
+        out.text(" dy=\"4\" text-anchor=\"end\">");
+        add_size_in_unit(out, self.page, pages);
+        out.text("</text>\n");
     }
 
     /// The lines of round sizes, and their names.
-    pub fn add_sizes(self, out: &mut String) -> Result<(), AllocError> {
+    pub fn add_sizes(self, out: &mut Draft) -> Result<(), AllocError> {
         let scale = Scale {
             least: 0,
             greatest: self.most,
@@ -103,51 +96,49 @@ impl Sheet {
         let step = if marks.len() as u64 > room { 2 } else { 1 };
         for (place, pages) in marks.as_slice().iter().enumerate() {
             if place.checked_rem(step).unwrap_or(0) == 0 {
-                self.add_size(out, *pages)?;
+                self.add_size(out, *pages);
             }
         }
         Ok(())
     }
 
     /// The tick of a row, and its name below it.
-    fn add_row(self, out: &mut String, row: usize, told: &Told) -> Result<(), AllocError> {
-        let x = pixels(self.alloc, self.across.middle(row))?;
-        let bottom = pixels(self.alloc, self.bottom)?;
-        let below = pixels(self.alloc, self.bottom.saturating_add(170))?;
-        write!(out, "<path d=\"M{x} {bottom}v4\" stroke=\"#888\"/>")?;
-        write!(out, "<text x=\"{x}\" y=\"{below}\" text-anchor=\"middle\">")?;
-        add_name(out, told)?;
-        out.push_str("</text>\n")
+    fn add_row(self, out: &mut Draft, row: usize, told: &Told) {
+        let x = self.across.middle(row);
+        out.text("<path d=\"");
+        add_point(out, "M", x, self.bottom);
+        out.text("v4\" stroke=\"#888\"/><text");
+        add_length(out, "x", x);
+        add_length(out, "y", self.bottom.saturating_add(170));
+        out.text(" text-anchor=\"middle\">");
+        add_name(out, told);
+        out.text("</text>\n");
     }
 
     /// The border, and the names of rows below it.
-    pub fn add_border(self, out: &mut String, rows: &[Told]) -> Result<(), AllocError> {
-        let left = pixels(self.alloc, LEFT)?;
-        let right = pixels(self.alloc, RIGHT)?;
-        let top = pixels(self.alloc, self.top)?;
-        let bottom = pixels(self.alloc, self.bottom)?;
-        writeln!(
-            out,
-            "<path d=\"M{left} {top}V{bottom}H{right}\" fill=\"none\" stroke=\"#888\"/>"
-        )?;
+    pub fn add_border(self, out: &mut Draft, rows: &[Told]) {
+        out.text("<path d=\"");
+        add_point(out, "M", LEFT, self.top);
+        out.text("V");
+        add_pixels(out, self.bottom);
+        out.text("H");
+        add_pixels(out, RIGHT);
+        out.text("\" fill=\"none\" stroke=\"#888\"/>\n");
         let step = rows.len().div_ceil(MOST_NAMES).max(1);
         for (row, told) in rows.iter().enumerate() {
             if row.checked_rem(step).unwrap_or(1) == 0 {
-                self.add_row(out, row, told)?;
+                self.add_row(out, row, told);
             }
         }
-        Ok(())
     }
 }
 
 /// Adds the line of a row, and its rounds.
-fn add_name(out: &mut String, told: &Told) -> Result<(), AllocError> {
-    let line = told.place.line;
-    write!(out, "{line}")?;
+fn add_name(out: &mut Draft, told: &Told) {
+    out.number(told.place.line as u64);
     let rounds = told.place.rounds.as_slice();
-    if rounds.is_empty() {
-        return Ok(());
+    if !rounds.is_empty() {
+        out.text("/");
+        add_rounds(out, rounds);
     }
-    out.push('/')?;
-    add_rounds(out, rounds)
 }

@@ -1,10 +1,12 @@
 //! The smaller picture: frames and swap of the machine.
 
-use crate::labels::{Label, add_label, draw_labels};
 use crate::rows::Machine;
-use crate::sheet::{LEFT, RIGHT, Sheet};
+use crate::sheet::Sheet;
 use crate::story::Story;
-use pictures::{Pen, pixels};
+use drafts::Draft;
+use pictures::{
+    LEFT, Label, Pen, RIGHT, add_attribute, add_label, add_pixels, add_point, draw_labels,
+};
 use scenario_amounts::add_size_in_unit;
 use scenario_words::header::Header;
 use std::alloc::AllocError;
@@ -53,28 +55,26 @@ impl Curve {
     /// Draws it, and adds its label.
     fn draw(
         self,
-        out: &mut String,
+        out: &mut Draft,
         sheet: Sheet,
         story: &Story,
         labels: &mut Vec<Label>,
     ) -> Result<(), AllocError> {
-        let alloc = sheet.alloc;
-        let mut pen = Pen::new(alloc);
+        let mut pen = Pen::new(sheet.alloc);
         let mut last = 0u64;
         for (row, told) in story.rows.iter().enumerate() {
             last = self.pages(told.machine);
-            pen.go(alloc, sheet.across.middle(row), sheet.down(last))?;
+            pen.go(sheet.across.middle(row), sheet.down(last));
         }
-        pen.lift(alloc, RIGHT)?;
-        let path = pen.path.as_str();
-        let colour = self.colour();
-        let dashes = self.dashes();
-        write!(
-            out,
-            "<path d=\"{path}\" fill=\"none\" stroke=\"{colour}\" stroke-width=\"2\""
-        )?;
-        writeln!(out, " stroke-dasharray=\"{dashes}\"/>")?;
-        add_named(sheet, labels, self.name(), last, colour)
+        pen.lift(RIGHT);
+        out.text("<path d=\"");
+        out.add(&pen.path);
+        out.text("\" fill=\"none\"");
+        add_attribute(out, "stroke", self.colour());
+        out.text(" stroke-width=\"2\"");
+        add_attribute(out, "stroke-dasharray", self.dashes());
+        out.text("/>\n");
+        add_named(sheet, labels, self.name(), last, self.colour())
     }
 }
 
@@ -86,40 +86,38 @@ fn add_named(
     pages: u64,
     colour: &'static str,
 ) -> Result<(), AllocError> {
-    let mut text = String::from_str(sheet.alloc, name)?;
-    text.push(' ')?;
-    add_size_in_unit(&mut text, sheet.page, pages)?;
-    let label = Label::new(sheet.alloc, sheet.down(pages), colour, text.as_str())?;
-    add_label(labels, label)
+    let mut text = Draft::new(sheet.alloc);
+    text.text(name);
+    text.text(" ");
+    add_size_in_unit(&mut text, sheet.page, pages);
+    add_label(labels, Label::new(sheet.down(pages), colour, text))
 }
 
 /// Draws a watermark, and adds its label.
 fn draw_watermark(
-    out: &mut String,
+    out: &mut Draft,
     sheet: Sheet,
     labels: &mut Vec<Label>,
     name: &str,
     pages: u64,
 ) -> Result<(), AllocError> {
-    let left = pixels(sheet.alloc, LEFT)?;
-    let right = pixels(sheet.alloc, RIGHT)?;
-    let y = pixels(sheet.alloc, sheet.down(pages))?;
-    writeln!(
-        out,
-        "<path d=\"M{left} {y}H{right}\" stroke=\"#7b4fb5\" stroke-dasharray=\"2 3\"/>"
-    )?;
+    out.text("<path d=\"");
+    add_point(out, "M", LEFT, sheet.down(pages));
+    out.text("H");
+    add_pixels(out, RIGHT);
+    out.text("\" stroke=\"#7b4fb5\" stroke-dasharray=\"2 3\"/>\n");
     add_named(sheet, labels, name, pages, "#7b4fb5")
 }
 
 /// Draws the frames in use, the free ones with the watermarks, and the swap in use.
 pub fn draw_frames(
-    out: &mut String,
+    out: &mut Draft,
     sheet: Sheet,
     story: &Story,
     header: &Header,
 ) -> Result<(), AllocError> {
     sheet.add_sizes(out)?;
-    sheet.add_border(out, story.rows.as_slice())?;
+    sheet.add_border(out, story.rows.as_slice());
     if story.rows.is_empty() {
         return Ok(());
     }
@@ -133,5 +131,6 @@ pub fn draw_frames(
     if header.swap > 0 {
         Curve::Swap.draw(out, sheet, story, &mut labels)?;
     }
-    draw_labels(sheet.alloc, out, labels, sheet.bottom)
+    draw_labels(out, labels, sheet.bottom);
+    Ok(())
 }

@@ -36,10 +36,10 @@ fn rounded_text(alloc: Global, size: &Rounded) -> Result<String, AllocError> {
 
 /// The same as JSON.
 fn rounded_object(alloc: Global, size: &Rounded) -> Result<Vec<u8>, AllocError> {
-    let mut object = Object::new(alloc, "rounded")?;
-    object.number("line", size.line as u64)?;
-    object.text("size", size.text.as_str())?;
-    object.number("pages", size.pages)?;
+    let mut object = Object::new(alloc, "rounded");
+    object.number("line", size.line as u64);
+    object.text("size", size.text.as_str());
+    object.number("pages", size.pages);
     object.line()
 }
 

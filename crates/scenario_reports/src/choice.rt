@@ -4,6 +4,7 @@ use crate::asked::Asked;
 use crate::levels::levels_below;
 use crate::telling::add_true_path;
 use book::Book;
+use drafts::Draft;
 use machine::text::Text;
 use scenario_pictures::Chosen;
 use scenario_words::names::Names;
@@ -58,8 +59,9 @@ impl Choice {
         let groups = asked.groups;
         let is_alone = paths.len() == 1 && groups.is_empty();
         for script in paths.get(self.seen..).unwrap_or(&[]) {
-            let mut path = String::new(alloc);
-            add_true_path(&mut path, names, script.as_str())?;
+            let mut path = Draft::new(alloc);
+            add_true_path(&mut path, names, script.as_str());
+            let path = path.finish()?;
             if is_alone || is_chosen(asked, path.as_str()) {
                 let script = script.copy(alloc)?;
                 self.all.push(Chosen {

@@ -1,6 +1,7 @@
 //! Commands, and why they were refused, with the names of the scenario.
 
 use crate::telling::{add_task, add_true_path};
+use drafts::Draft;
 use explain::Reason;
 use machine::command::Command;
 use machine::text::Text;
@@ -9,9 +10,9 @@ use scenario_words::names::Names;
 use std::alloc::{AllocError, Global};
 
 fn true_path(alloc: Global, names: &Names, path: &Text) -> Result<Text, AllocError> {
-    let mut text = String::new(alloc);
-    add_true_path(&mut text, names, path.as_str())?;
-    Ok(Text::new(text))
+    let mut text = Draft::new(alloc);
+    add_true_path(&mut text, names, path.as_str());
+    Ok(Text::new(text.finish()?))
 }
 
 /// A command with the true path of its group.
@@ -41,15 +42,15 @@ pub fn true_command(
 }
 
 /// Adds why a line was refused, with the name of the task that the reason is about.
-pub fn add_refusal(text: &mut String, scene: &Scene, reason: Reason<'_>) -> Result<(), AllocError> {
+pub fn add_refusal(text: &mut Draft, scene: &Scene, reason: Reason<'_>) {
     match reason {
         Reason::NoTask(task) => {
-            add_task(text, scene, task)?;
-            text.push_str(" was never started, or has exited")
+            add_task(text, scene, task);
+            text.text(" was never started, or has exited");
         }
         Reason::NoLiveTask(task) => {
-            add_task(text, scene, task)?;
-            text.push_str(" was never started, has exited, or was killed")
+            add_task(text, scene, task);
+            text.text(" was never started, has exited, or was killed");
         }
         reason => write!(text, "{reason}"),
     }

@@ -1,5 +1,6 @@
 //! Lines that were refused, until the `expect refused` that is about them.
 
+use drafts::Draft;
 use machine::command::Word;
 use scenario_lines::awaited::Awaited;
 use scenario_pictures::add_place;
@@ -40,14 +41,13 @@ pub fn are_expected(
 }
 
 /// Adds the words, with commas between them.
-pub fn add_words(text: &mut String, words: &[Word]) -> Result<(), AllocError> {
+pub fn add_words(text: &mut Draft, words: &[Word]) {
     for (place, word) in words.iter().enumerate() {
         if place > 0 {
-            text.push_str(", ")?;
+            text.text(", ");
         }
-        write!(text, "{word}")?;
+        write!(text, "{word}");
     }
-    Ok(())
 }
 
 impl Refusal {
@@ -114,18 +114,13 @@ impl Refusals {
     }
 
     /// Adds the place of the first of them.
-    pub fn add_first_place(
-        &self,
-        text: &mut String,
-        line: usize,
-        rounds: &[u32],
-    ) -> Result<(), AllocError> {
+    pub fn add_first_place(&self, text: &mut Draft, line: usize, rounds: &[u32]) {
         for refusal in &self.all {
             if refusal.is_of(line, rounds) {
-                return add_place(text, refusal.line, refusal.rounds.as_slice());
+                add_place(text, refusal.line, refusal.rounds.as_slice());
+                return;
             }
         }
-        Ok(())
     }
 
     /// Removes the refusals that this line is about and no later line waits for.

@@ -3,8 +3,11 @@
 use crate::asked::Prints;
 use crate::summary::Summary;
 use crate::values::Values;
-use scenario_amounts::{add_cell, add_gap, add_number, add_size_in_unit, bytes_of};
-use scenario_pictures::{Object, add_csv_cell, add_moved, add_names};
+use drafts::Draft;
+use scenario_amounts::{
+    add_cell, add_drafted_cell, add_gap, add_number, add_size_in_unit, bytes_of,
+};
+use scenario_pictures::{Object, add_csv_cell, add_csv_names, add_moved, add_names};
 use scenario_words::amount::PageSize;
 use std::alloc::{AllocError, Global};
 
@@ -32,15 +35,10 @@ fn longest(values: &Values<'_>) -> usize {
     width
 }
 
-fn add_size_cell(
-    alloc: Global,
-    text: &mut String,
-    page: PageSize,
-    pages: u64,
-) -> Result<(), AllocError> {
-    let mut cell = String::new(alloc);
-    add_size_in_unit(&mut cell, page, pages)?;
-    add_cell(text, SIZE_COLUMN, cell.as_str())
+fn add_size_cell(alloc: Global, text: &mut Draft, page: PageSize, pages: u64) {
+    let mut cell = Draft::new(alloc);
+    add_size_in_unit(&mut cell, page, pages);
+    add_drafted_cell(text, SIZE_COLUMN, &cell);
 }
 
 fn yes_or_no(holds: bool) -> &'static str {
@@ -48,53 +46,50 @@ fn yes_or_no(holds: bool) -> &'static str {
 }
 
 /// Adds who was killed.
-fn add_killed(text: &mut String, summary: &Summary) -> Result<(), AllocError> {
+fn add_killed(text: &mut Draft, summary: &Summary) {
     if summary.killed == 0 {
-        return text.push_str("nobody");
+        text.text("nobody");
+        return;
     }
-    add_names(text, summary.first.as_slice())?;
+    add_names(text, summary.first.as_slice());
     if summary.others() > 0 {
-        text.push_str(" and ")?;
-        add_number(text, summary.others() as u64)?;
-        text.push_str(" more")?;
+        text.text(" and ");
+        add_number(text, summary.others() as u64);
+        text.text(" more");
     }
-    Ok(())
 }
 
-fn add_table_row(
-    alloc: Global,
-    text: &mut String,
-    width: usize,
-    value: &str,
-    summary: &Summary,
-) -> Result<(), AllocError> {
-    text.push_str(value)?;
-    add_gap(text, width, characters(value))?;
+fn add_table_row(alloc: Global, text: &mut Draft, width: usize, value: &str, summary: &Summary) {
+    text.text(value);
+    add_gap(text, width, characters(value));
     let page = summary.page;
     let moved = summary.moved;
-    add_size_cell(alloc, text, page, moved.read)?;
-    add_size_cell(alloc, text, page, moved.written)?;
-    add_size_cell(alloc, text, page, moved.dropped)?;
-    add_cell(text, SIZE_COLUMN, yes_or_no(summary.well))?;
-    text.push_str("  ")?;
-    add_killed(text, summary)
+    add_size_cell(alloc, text, page, moved.read);
+    add_size_cell(alloc, text, page, moved.written);
+    add_size_cell(alloc, text, page, moved.dropped);
+    add_cell(text, SIZE_COLUMN, yes_or_no(summary.well));
+    text.text("  ");
+    add_killed(text, summary);
 }
 
 fn add_csv_row(
     alloc: Global,
-    text: &mut String,
+    text: &mut Draft,
     value: &str,
     summary: &Summary,
 ) -> Result<(), AllocError> {
-    add_csv_cell(text, value)?;
+    add_csv_cell(text, value);
     let moved = summary.moved;
     for pages in [moved.read, moved.written, moved.dropped] {
-        write!(text, ",{}", bytes_of(summary.page, pages))?;
+        text.text(",");
+        text.number(bytes_of(summary.page, pages));
     }
-    write!(text, ",{},{},", yes_or_no(summary.well), summary.killed)?;
-    let mut names = String::new(alloc);
-    add_names(&mut names, summary.first.as_slice())?;
-    add_csv_cell(text, names.as_str())
+    text.text(",");
+    text.text(yes_or_no(summary.well));
+    text.text(",");
+    text.number(summary.killed as u64);
+    text.text(",");
+    add_csv_names(text, alloc, summary.first.as_slice())
 }
 
 /// The object of a row, in a line of its own.
@@ -104,13 +99,13 @@ fn row_object(
     value: &str,
     summary: &Summary,
 ) -> Result<Vec<u8>, AllocError> {
-    let mut object = Object::new(alloc, "value")?;
-    object.text("name", name)?;
-    object.text("value", value)?;
-    add_moved(&mut object, summary.page, summary.moved)?;
-    object.boolean("as_expected", summary.well)?;
-    object.number("killed", summary.killed as u64)?;
-    object.texts("first_killed", summary.first.as_slice())?;
+    let mut object = Object::new(alloc, "value");
+    object.text("name", name);
+    object.text("value", value);
+    add_moved(&mut object, summary.page, summary.moved);
+    object.boolean("as_expected", summary.well);
+    object.number("killed", summary.killed as u64);
+    object.texts("first_killed", summary.first.as_slice());
     object.line()
 }
 
@@ -125,38 +120,38 @@ impl<'v> VaryRows<'v> {
 
     /// The line above the rows. JSON has none.
     pub fn heading(self, alloc: Global) -> Result<String, AllocError> {
-        let mut text = String::new(alloc);
+        let mut text = Draft::new(alloc);
         let name = self.values.name;
         match self.prints {
-            Prints::Json => return Ok(text),
+            Prints::Json => return text.finish(),
             Prints::Csv => {
-                add_csv_cell(&mut text, name)?;
-                text.push_str(",read_in,written_out,dropped,as_expected,killed,first_killed")?;
+                add_csv_cell(&mut text, name);
+                text.text(",read_in,written_out,dropped,as_expected,killed,first_killed");
             }
             Prints::Report | Prints::Chart | Prints::Unmet => {
-                text.push_str(name)?;
-                add_gap(&mut text, self.width, characters(name))?;
+                text.text(name);
+                add_gap(&mut text, self.width, characters(name));
                 for title in ["read in", "written out", "dropped", "as expected"] {
-                    add_cell(&mut text, SIZE_COLUMN, title)?;
+                    add_cell(&mut text, SIZE_COLUMN, title);
                 }
-                text.push_str("  killed")?;
+                text.text("  killed");
             }
         }
-        text.push('\n')?;
-        Ok(text)
+        text.text("\n");
+        text.finish()
     }
 
     /// The row of a run with this value.
     pub fn row(self, alloc: Global, value: &str, summary: &Summary) -> Result<Vec<u8>, AllocError> {
-        let mut text = String::new(alloc);
+        let mut text = Draft::new(alloc);
         match self.prints {
             Prints::Json => return row_object(alloc, self.values.name, value, summary),
             Prints::Csv => add_csv_row(alloc, &mut text, value, summary)?,
             Prints::Report | Prints::Chart | Prints::Unmet => {
-                add_table_row(alloc, &mut text, self.width, value, summary)?
+                add_table_row(alloc, &mut text, self.width, value, summary)
             }
         }
-        text.push('\n')?;
-        Ok(text.into_bytes())
+        text.text("\n");
+        Ok(text.finish()?.into_bytes())
     }
 }

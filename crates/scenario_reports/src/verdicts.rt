@@ -3,6 +3,7 @@
 use crate::tasks::Tasks;
 use crate::telling::add_tasks;
 use book::Book;
+use drafts::Draft;
 use scenario_amounts::{add_size_in_unit, bytes_of};
 use scenario_lines::scene::Scene;
 use scenario_pictures::Moved;
@@ -90,11 +91,11 @@ pub fn compare_pages(
             met = operator.holds(order_of(page, bytes_of(page, pages), wanted));
         }
     }
-    let mut found = String::new(alloc);
-    add_size_in_unit(&mut found, page, pages)?;
+    let mut found = Draft::new(alloc);
+    add_size_in_unit(&mut found, page, pages);
     Ok(Verdict {
         met,
-        found,
+        found: found.finish()?,
         number: Some(bytes_of(page, pages)),
     })
 }
@@ -215,15 +216,16 @@ pub fn judge_killed(
     };
     let dead = tasks.dead();
     let met = has_all(dead, wanted.as_slice()) && has_all(wanted.as_slice(), dead);
-    let mut found = String::from_str(alloc, "killed: ")?;
+    let mut found = Draft::new(alloc);
+    found.text("killed: ");
     if dead.is_empty() {
-        found.push_str("nobody")?;
+        found.text("nobody");
     } else {
-        add_tasks(&mut found, scene, dead)?;
+        add_tasks(&mut found, scene, dead);
     }
     Ok(Verdict {
         met,
-        found,
+        found: found.finish()?,
         number: None,
     })
 }
@@ -242,11 +244,12 @@ pub fn judge_alive(
             gone.push(*task)?;
         }
     }
-    let mut found = String::from_str(alloc, "killed or ended: ")?;
-    add_tasks(&mut found, scene, gone.as_slice())?;
+    let mut found = Draft::new(alloc);
+    found.text("killed or ended: ");
+    add_tasks(&mut found, scene, gone.as_slice());
     Ok(Verdict {
         met: gone.is_empty(),
-        found,
+        found: found.finish()?,
         number: None,
     })
 }

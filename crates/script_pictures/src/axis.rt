@@ -1,17 +1,9 @@
 //! The places of a script's lines across the picture, in tenths of a pixel.
 
 use charts::Row;
-use pictures::{Scale, line_marks};
+use pictures::{LEFT, RIGHT, Scale, line_marks};
 use std::alloc::{AllocError, Global};
 use std::str;
-
-/// The left end of the first line, and the right end of the last.
-pub const LEFT: u64 = 900;
-
-pub const RIGHT: u64 = 7500;
-
-/// The width of the picture.
-pub const WIDTH: u64 = 10_000;
 
 /// How far apart the numbers of two lines are, at least.
 const APART: u64 = 450;

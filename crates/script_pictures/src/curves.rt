@@ -1,12 +1,14 @@
 //! Curves of what groups are charged with.
 
-use crate::axis::{Place, RIGHT, Ticks};
-use crate::labels::{Label, add_label, draw_labels, last_part};
+use crate::axis::{Place, Ticks};
 use crate::look::{Setting, look_of, peak_of, setting_of};
 use crate::refusals::{Triangles, draw_refusals};
 use crate::sheet::Sheet;
 use charts::Row;
-use pictures::{Pen, Size, escaped};
+use drafts::Draft;
+use pictures::{
+    Label, Pen, RIGHT, Size, add_attribute, add_escaped, add_label, add_last_part, draw_labels,
+};
 use std::alloc::AllocError;
 
 /// How many groups are drawn as curves, at most.
@@ -75,14 +77,8 @@ pub struct Columns<'r> {
 
 impl Columns<'_> {
     /// The path of a curve of the group at this place: of a setting, or of its charge.
-    fn path(
-        self,
-        sheet: Sheet,
-        group: usize,
-        setting: Option<Setting>,
-    ) -> Result<String, AllocError> {
-        let alloc = sheet.alloc;
-        let mut pen = Pen::new(alloc);
+    fn path(self, sheet: Sheet, group: usize, setting: Option<Setting>) -> Draft {
+        let mut pen = Pen::new(sheet.alloc);
         for (row, place) in self.rows.iter().zip(self.places.iter()) {
             let pages = match (look_of(row, group), setting) {
                 (None, _) => None,
@@ -90,58 +86,45 @@ impl Columns<'_> {
                 (Some(look), Some(setting)) => setting.pages(&look),
             };
             match pages {
-                Some(pages) if pages <= sheet.most => {
-                    pen.go(alloc, place.across, sheet.down(pages))?;
-                }
-                _ => pen.lift(alloc, place.across)?,
+                Some(pages) if pages <= sheet.most => pen.go(place.across, sheet.down(pages)),
+                _ => pen.lift(place.across),
             }
         }
-        pen.lift(alloc, RIGHT)?;
-        Ok(pen.path)
+        pen.lift(RIGHT);
+        pen.path
     }
 
     /// Draws the curve of a group's setting.
-    fn draw_setting(
-        self,
-        out: &mut String,
-        sheet: Sheet,
-        group: usize,
-        setting: Setting,
-    ) -> Result<(), AllocError> {
-        let path = self.path(sheet, group, Some(setting))?;
+    fn draw_setting(self, out: &mut Draft, sheet: Sheet, group: usize, setting: Setting) {
+        let path = self.path(sheet, group, Some(setting));
         if path.is_empty() {
-            return Ok(());
+            return;
         }
-        let colour = colour_of(group);
-        let dashes = setting.dashes();
-        write!(out, "<path d=\"{path}\" fill=\"none\" stroke=\"{colour}\"")?;
-        writeln!(out, " stroke-dasharray=\"{dashes}\" opacity=\"0.7\"/>")
+        out.text("<path d=\"");
+        out.add(&path);
+        out.text("\" fill=\"none\"");
+        add_attribute(out, "stroke", colour_of(group));
+        add_attribute(out, "stroke-dasharray", setting.dashes());
+        out.text(" opacity=\"0.7\"/>\n");
     }
 
     /// Draws the curve of a group's charge.
-    fn draw_current(
-        self,
-        out: &mut String,
-        sheet: Sheet,
-        group: usize,
-        name: &str,
-    ) -> Result<(), AllocError> {
-        let path = self.path(sheet, group, None)?;
+    fn draw_current(self, out: &mut Draft, sheet: Sheet, group: usize, name: &str) {
+        let path = self.path(sheet, group, None);
         if path.is_empty() {
-            return Ok(());
+            return;
         }
-        let colour = colour_of(group);
-        let dashes = DASHES[group % DASHES.len()];
-        let name = escaped(sheet.alloc, name)?;
-        let peak = Size(peak_of(self.rows, group));
-        write!(
-            out,
-            "<path d=\"{path}\" fill=\"none\" stroke=\"{colour}\" stroke-width=\"2.5\""
-        )?;
-        writeln!(
-            out,
-            " stroke-dasharray=\"{dashes}\"><title>{name}, peak {peak}</title></path>"
-        )
+        out.text("<path d=\"");
+        out.add(&path);
+        out.text("\" fill=\"none\"");
+        add_attribute(out, "stroke", colour_of(group));
+        add_attribute(out, "stroke-width", "2.5");
+        add_attribute(out, "stroke-dasharray", DASHES[group % DASHES.len()]);
+        out.text("><title>");
+        add_escaped(out, name);
+        out.text(", peak ");
+        out.write_fmt(Size(peak_of(self.rows, group)));
+        out.text("</title></path>\n");
     }
 
     /// The last charge of the group at this place, and whether it is that of the last row.
@@ -158,56 +141,49 @@ impl Columns<'_> {
     }
 
     /// The label of the group at this place, if it was there.
-    fn label(self, sheet: Sheet, group: usize, name: &str) -> Result<Option<Label>, AllocError> {
-        let Some((pages, is_last)) = self.last_current(group) else {
-            return Ok(None);
-        };
-        let mut text = last_part(sheet.alloc, name, MOST_CHARACTERS)?;
+    fn label(self, sheet: Sheet, group: usize, name: &str) -> Option<Label> {
+        let (pages, is_last) = self.last_current(group)?;
+        let mut text = Draft::new(sheet.alloc);
+        add_last_part(&mut text, name, MOST_CHARACTERS);
         if is_last {
-            let size = Size(pages);
-            write!(text, " {size}")?;
+            text.text(" ");
+            text.write_fmt(Size(pages));
         } else {
-            text.push_str(" (removed)")?;
+            text.text(" (removed)");
         }
-        let label = Label::new(
-            sheet.alloc,
-            sheet.down(pages),
-            colour_of(group),
-            text.as_str(),
-        )?;
-        Ok(Some(label))
+        Some(Label::new(sheet.down(pages), colour_of(group), text))
     }
 
     /// Draws a curve for each group, with its name at its right end.
     pub fn draw_curves(
         self,
-        out: &mut String,
+        out: &mut Draft,
         sheet: Sheet,
         ticks: &Ticks,
         paths: &[&str],
     ) -> Result<(), AllocError> {
         sheet.add_sizes(out)?;
-        sheet.add_border(out, ticks)?;
+        sheet.add_border(out, ticks);
         let mut labels = Vec::new(sheet.alloc);
         for group in 0..paths.len() {
             for setting in SETTINGS {
-                self.draw_setting(out, sheet, group, setting)?;
+                self.draw_setting(out, sheet, group, setting);
             }
         }
         for (group, path) in paths.iter().enumerate() {
-            self.draw_current(out, sheet, group, *path)?;
+            self.draw_current(out, sheet, group, *path);
             let form = Triangles {
-                alloc: sheet.alloc,
                 bottom: sheet.bottom,
                 high: 10,
                 half: 4,
                 colour: colour_of(group),
             };
-            draw_refusals(out, self, group, *path, form)?;
-            if let Some(label) = self.label(sheet, group, *path)? {
+            draw_refusals(out, self, group, *path, form);
+            if let Some(label) = self.label(sheet, group, *path) {
                 add_label(&mut labels, label)?;
             }
         }
-        draw_labels(sheet.alloc, out, labels, sheet.bottom)
+        draw_labels(out, labels, sheet.bottom);
+        Ok(())
     }
 }

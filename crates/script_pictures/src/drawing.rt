@@ -1,14 +1,13 @@
 //! The picture of a run.
 
-use crate::axis::{Axis, LEFT, WIDTH};
-use crate::bands::BAND;
+use crate::axis::Axis;
 use crate::curves::{Columns, MOST_CURVES, height_of};
-use crate::labels::first_part;
-use crate::moments::{Moments, deaths_of, phases_of};
+use crate::moments::{deaths_of, phases_of};
 use crate::sheet::Sheet;
 use crate::usage::draw_machine;
 use charts::Watched;
-use pictures::{escaped, pixels};
+use drafts::Draft;
+use pictures::{BAND, LEFT, Moments, WIDTH, add_first_part, add_length, add_pixels};
 use std::alloc::{AllocError, Global};
 
 /// How high the curves are.
@@ -81,56 +80,48 @@ fn layout_of(
 }
 
 /// Adds the title, which is cut if it is long.
-fn add_title(alloc: Global, out: &mut String, title: &str) -> Result<(), AllocError> {
-    let left = pixels(alloc, LEFT)?;
-    let part = first_part(alloc, title, MOST_CHARACTERS)?;
-    let title = escaped(alloc, part.as_str())?;
-    write!(out, "<text x=\"{left}\" y=\"24\" font-size=\"15\">")?;
-    writeln!(out, "memory.current: {title}</text>")
+fn add_title(out: &mut Draft, title: &str) {
+    out.text("<text");
+    add_length(out, "x", LEFT);
+    out.text(" y=\"24\" font-size=\"15\">memory.current: ");
+    let _shown = add_first_part(out, title, MOST_CHARACTERS);
+    out.text("</text>\n");
 }
 
 /// Adds the beginning: the size of the picture, and its title.
-fn first_lines(alloc: Global, title: &str, layout: Layout) -> Result<String, AllocError> {
-    let mut out = String::new(alloc);
-    let width = pixels(alloc, WIDTH)?;
-    let height = pixels(alloc, layout.foot.saturating_add(150))?;
-    write!(
-        out,
-        "<svg xmlns=\"http://www.w3.org/2000/svg\" viewBox=\"0 0 {width} {height}\""
-    )?;
-    writeln!(out, " font-family=\"sans-serif\" font-size=\"11\">")?;
-    writeln!(
-        out,
-        "<rect width=\"{width}\" height=\"{height}\" fill=\"#fff\"/>"
-    )?;
-    add_title(alloc, &mut out, title)?;
-    Ok(out)
+fn add_first_lines(out: &mut Draft, title: &str, layout: Layout) {
+    let height = layout.foot.saturating_add(150);
+    out.text("<svg xmlns=\"http://www.w3.org/2000/svg\" viewBox=\"0 0 ");
+    add_pixels(out, WIDTH);
+    out.text(" ");
+    add_pixels(out, height);
+    out.text("\" font-family=\"sans-serif\" font-size=\"11\">\n<rect");
+    add_length(out, "width", WIDTH);
+    add_length(out, "height", height);
+    out.text(" fill=\"#fff\"/>\n");
+    add_title(out, title);
 }
 
 /// Adds the last lines, which say what is drawn.
-fn add_last_lines(alloc: Global, out: &mut String, layout: Layout) -> Result<(), AllocError> {
-    let left = pixels(alloc, LEFT)?;
-    let axis = pixels(alloc, layout.foot.saturating_sub(80))?;
-    let foot = pixels(alloc, layout.foot.saturating_add(80))?;
-    let what = if layout.are_bands {
+fn add_last_lines(out: &mut Draft, layout: Layout) {
+    out.text("<g fill=\"#555\"><text");
+    add_length(out, "x", LEFT);
+    add_length(out, "y", layout.foot.saturating_sub(80));
+    out.text(">Numbers at the bottom: the line of the script.");
+    if layout.has_phases {
+        out.text(" All phases are equally wide.");
+    }
+    out.text("</text>\n<text");
+    add_length(out, "x", LEFT);
+    add_length(out, "y", layout.foot.saturating_add(80));
+    out.text(">");
+    out.text(if layout.are_bands {
         "Darkness: how much of its memory.max a group uses, or of the machine if it has no max."
     } else {
         "Thin dashes: memory.max. Dots: memory.min. Dashes and dots: memory.low."
-    };
-    let across = if layout.has_phases {
-        "Numbers at the bottom: the line of the script. All phases are equally wide."
-    } else {
-        "Numbers at the bottom: the line of the script."
-    };
-    writeln!(
-        out,
-        "<g fill=\"#555\"><text x=\"{left}\" y=\"{axis}\">{across}</text>"
-    )?;
-    write!(out, "<text x=\"{left}\" y=\"{foot}\">{what} ")?;
-    out.push_str(
-        "Cross: tasks were killed. Triangle: charges were refused at a max.</text></g>\n",
-    )?;
-    out.push_str("</svg>\n")
+    });
+    out.text(" Cross: tasks were killed. Triangle: charges were refused at a max.</text></g>\n");
+    out.text("</svg>\n");
 }
 
 /// The picture of what was watched, as a page-wide SVG. It shows `memory.current` of each group over the lines of the
@@ -162,16 +153,17 @@ pub fn picture(
     let deaths = deaths_of(alloc, &axis, watched.kills.as_slice())?;
     let ticks = axis.ticks(alloc)?;
     let layout = layout_of(alloc, paths.len(), watched, &begun, &deaths);
-    let mut out = first_lines(alloc, title, layout)?;
+    let mut out = Draft::new(alloc);
+    add_first_lines(&mut out, title, layout);
     if layout.are_bands {
         let memory = u64::from(watched.sizes.frames);
-        columns.draw_bands(&mut out, layout.groups, &ticks, paths, memory)?;
+        columns.draw_bands(&mut out, layout.groups, &ticks, paths, memory);
     } else {
         columns.draw_curves(&mut out, layout.groups, &ticks, paths)?;
     }
     draw_machine(&mut out, layout.machine, &ticks, columns, watched.sizes)?;
-    begun.draw(alloc, &mut out, TOP, layout.machine.bottom)?;
-    deaths.draw(alloc, &mut out, layout.crosses, layout.machine.bottom)?;
-    add_last_lines(alloc, &mut out, layout)?;
-    Ok(out)
+    begun.draw(&mut out, TOP, layout.machine.bottom);
+    deaths.draw(&mut out, layout.crosses, layout.machine.bottom);
+    add_last_lines(&mut out, layout);
+    out.finish()
 }

@@ -6,7 +6,6 @@ mod axis;
 mod bands;
 mod curves;
 mod drawing;
-mod labels;
 mod look;
 mod moments;
 mod refusals;

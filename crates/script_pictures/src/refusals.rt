@@ -3,8 +3,8 @@
 use crate::curves::Columns;
 use crate::look::look_of;
 use book::GroupLook;
-use pictures::pixels;
-use std::alloc::{AllocError, Global};
+use drafts::Draft;
+use pictures::{add_attribute, add_point};
 
 /// How many charges were refused at one place.
 #[derive(Clone, Copy)]
@@ -18,7 +18,6 @@ struct Refusal {
 /// The triangles of a group.
 #[derive(Clone, Copy)]
 pub struct Triangles {
-    pub alloc: Global,
     /// Where they end.
     pub bottom: u64,
     /// How high they are, and half of their width, in pixels.
@@ -29,27 +28,30 @@ pub struct Triangles {
 
 impl Refusal {
     /// Draws a triangle.
-    fn draw(self, out: &mut String, path: &str, form: Triangles) -> Result<(), AllocError> {
-        let x = pixels(form.alloc, self.across)?;
+    fn draw(self, out: &mut Draft, path: &str, form: Triangles) {
         let (high, half) = (form.high, form.half);
-        let width = half.saturating_mul(2);
         let above = form.bottom.saturating_sub(high.saturating_mul(10));
-        let y = pixels(form.alloc, above)?;
-        let colour = form.colour;
-        let (line, count) = (self.line, self.count);
-        write!(
-            out,
-            "<path d=\"M{x} {y}l-{half} {high}h{width}z\" fill=\"{colour}\"><title>line {line}: "
-        )?;
-        if count == 1 {
-            write!(out, "a charge of {path} was refused at its memory.max")?;
+        out.text("<path d=\"");
+        add_point(out, "M", self.across, above);
+        write!(out, "l-{half} {high}");
+        out.text("h");
+        out.number(half.saturating_mul(2));
+        out.text("z\"");
+        add_attribute(out, "fill", form.colour);
+        out.text("><title>line ");
+        out.number(self.line);
+        out.text(": ");
+        if self.count == 1 {
+            out.text("a charge of ");
+            out.text(path);
+            out.text(" was refused");
         } else {
-            write!(
-                out,
-                "{count} charges of {path} were refused at its memory.max"
-            )?;
+            out.number(self.count);
+            out.text(" charges of ");
+            out.text(path);
+            out.text(" were refused");
         }
-        out.push_str("</title></path>\n")
+        out.text(" at its memory.max</title></path>\n");
     }
 }
 
@@ -64,12 +66,12 @@ fn refused_since(now: GroupLook, then: Option<GroupLook>) -> u64 {
 
 /// Draws a mark at each place where charges of the group at this place were refused. Those at one place are one.
 pub fn draw_refusals(
-    out: &mut String,
+    out: &mut Draft,
     columns: Columns<'_>,
     group: usize,
     path: &str,
     form: Triangles,
-) -> Result<(), AllocError> {
+) {
     let mut known: Option<GroupLook> = None;
     let mut mark: Option<Refusal> = None;
     for (row, place) in columns.rows.iter().zip(columns.places.iter()) {
@@ -90,15 +92,14 @@ pub fn draw_refusals(
                     ..last
                 }),
                 Some(last) => {
-                    last.draw(out, path, form)?;
+                    last.draw(out, path, form);
                     Some(fresh)
                 }
                 None => Some(fresh),
             };
         }
     }
-    match mark {
-        Some(last) => last.draw(out, path, form),
-        None => Ok(()),
+    if let Some(last) = mark {
+        last.draw(out, path, form);
     }
 }

@@ -1,7 +1,10 @@
 //! A part of the picture: lines from left to right, and pages upwards. Places are in tenths of a pixel.
 
-use crate::axis::{LEFT, Place, RIGHT, Ticks};
-use pictures::{Scale, Size, page_marks, pixels};
+use crate::axis::{Place, Ticks};
+use drafts::Draft;
+use pictures::{
+    LEFT, RIGHT, Scale, Size, add_attribute, add_length, add_pixels, add_point, page_marks,
+};
 use std::alloc::{AllocError, Global};
 
 /// The height that the name of a size takes.
@@ -28,21 +31,22 @@ impl Sheet {
     }
 
     /// The line of a size, and its name.
-    fn add_size(self, out: &mut String, pages: u64) -> Result<(), AllocError> {
-        let left = pixels(self.alloc, LEFT)?;
-        let right = pixels(self.alloc, RIGHT)?;
-        let next_to = pixels(self.alloc, LEFT.saturating_sub(60))?;
-        let y = pixels(self.alloc, self.down(pages))?;
-        let size = Size(pages);
-        write!(out, "<path d=\"M{left} {y}H{right}\" stroke=\"#e4e4e4\"/>")?;
-        writeln!(
-            out,
-            "<text x=\"{next_to}\" y=\"{y}\" dy=\"4\" text-anchor=\"end\">{size}</text>"
-        )
+    fn add_size(self, out: &mut Draft, pages: u64) {
+        let y = self.down(pages);
+        out.text("<path d=\"");
+        add_point(out, "M", LEFT, y);
+        out.text("H");
+        add_pixels(out, RIGHT);
+        out.text("\" stroke=\"#e4e4e4\"/><text");
+        add_length(out, "x", LEFT.saturating_sub(60));
+        add_length(out, "y", y);
+        out.text(" dy=\"4\" text-anchor=\"end\">");
+        out.write_fmt(Size(pages));
+        out.text("</text>\n");
     }
 
     /// The lines of round sizes, and their names.
-    pub fn add_sizes(self, out: &mut String) -> Result<(), AllocError> {
+    pub fn add_sizes(self, out: &mut Draft) -> Result<(), AllocError> {
         let scale = Scale {
             least: 0,
             greatest: self.most,
@@ -53,38 +57,37 @@ impl Sheet {
         let step = if marks.len() as u64 > room { 2 } else { 1 };
         for (place, pages) in marks.as_slice().iter().enumerate() {
             if place.checked_rem(step).unwrap_or(0) == 0 {
-                self.add_size(out, *pages)?;
+                self.add_size(out, *pages);
             }
         }
         Ok(())
     }
 
     /// The tick of a line, and its number below it.
-    fn add_tick(self, out: &mut String, tick: Place, anchor: &str) -> Result<(), AllocError> {
-        let x = pixels(self.alloc, tick.across)?;
-        let bottom = pixels(self.alloc, self.bottom)?;
-        let below = pixels(self.alloc, self.bottom.saturating_add(170))?;
-        let line = tick.line;
-        write!(out, "<path d=\"M{x} {bottom}v4\" stroke=\"#888\"/>")?;
-        writeln!(
-            out,
-            "<text x=\"{x}\" y=\"{below}\" dx=\"2\" text-anchor=\"{anchor}\">{line}</text>"
-        )
+    fn add_tick(self, out: &mut Draft, tick: Place, anchor: &str) {
+        out.text("<path d=\"");
+        add_point(out, "M", tick.across, self.bottom);
+        out.text("v4\" stroke=\"#888\"/><text");
+        add_length(out, "x", tick.across);
+        add_length(out, "y", self.bottom.saturating_add(170));
+        out.text(" dx=\"2\"");
+        add_attribute(out, "text-anchor", anchor);
+        out.text(">");
+        out.number(tick.line);
+        out.text("</text>\n");
     }
 
     /// The border, and the numbers of lines below it.
-    pub fn add_border(self, out: &mut String, ticks: &Ticks) -> Result<(), AllocError> {
-        let left = pixels(self.alloc, LEFT)?;
-        let right = pixels(self.alloc, RIGHT)?;
-        let top = pixels(self.alloc, self.top)?;
-        let bottom = pixels(self.alloc, self.bottom)?;
-        writeln!(
-            out,
-            "<path d=\"M{left} {top}V{bottom}H{right}\" fill=\"none\" stroke=\"#888\"/>"
-        )?;
+    pub fn add_border(self, out: &mut Draft, ticks: &Ticks) {
+        out.text("<path d=\"");
+        add_point(out, "M", LEFT, self.top);
+        out.text("V");
+        add_pixels(out, self.bottom);
+        out.text("H");
+        add_pixels(out, RIGHT);
+        out.text("\" fill=\"none\" stroke=\"#888\"/>\n");
         for tick in ticks.places.iter() {
-            self.add_tick(out, *tick, ticks.anchor)?;
+            self.add_tick(out, *tick, ticks.anchor);
         }
-        Ok(())
     }
 }

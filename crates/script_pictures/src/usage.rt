@@ -1,11 +1,13 @@
 //! The smaller picture: frames and swap of the machine.
 
-use crate::axis::{LEFT, RIGHT, Ticks};
+use crate::axis::Ticks;
 use crate::curves::Columns;
-use crate::labels::{Label, add_label, draw_labels};
 use crate::sheet::Sheet;
 use charts::{Machine, Sizes};
-use pictures::{Pen, Size, pixels};
+use drafts::Draft;
+use pictures::{
+    LEFT, Label, Pen, RIGHT, Size, add_attribute, add_label, add_pixels, add_point, draw_labels,
+};
 use std::alloc::AllocError;
 
 /// A curve of the machine.
@@ -52,28 +54,26 @@ impl Curve {
     /// Draws it, and adds its label.
     fn draw(
         self,
-        out: &mut String,
+        out: &mut Draft,
         sheet: Sheet,
         columns: Columns<'_>,
         labels: &mut Vec<Label>,
     ) -> Result<(), AllocError> {
-        let alloc = sheet.alloc;
-        let mut pen = Pen::new(alloc);
+        let mut pen = Pen::new(sheet.alloc);
         let mut last = 0u64;
         for (row, place) in columns.rows.iter().zip(columns.places.iter()) {
             last = self.pages(row.machine);
-            pen.go(alloc, place.across, sheet.down(last))?;
+            pen.go(place.across, sheet.down(last));
         }
-        pen.lift(alloc, RIGHT)?;
-        let path = pen.path.as_str();
-        let colour = self.colour();
-        let dashes = self.dashes();
-        write!(
-            out,
-            "<path d=\"{path}\" fill=\"none\" stroke=\"{colour}\" stroke-width=\"2\""
-        )?;
-        writeln!(out, " stroke-dasharray=\"{dashes}\"/>")?;
-        add_named(sheet, labels, self.name(), last, colour)
+        pen.lift(RIGHT);
+        out.text("<path d=\"");
+        out.add(&pen.path);
+        out.text("\" fill=\"none\"");
+        add_attribute(out, "stroke", self.colour());
+        out.text(" stroke-width=\"2\"");
+        add_attribute(out, "stroke-dasharray", self.dashes());
+        out.text("/>\n");
+        add_named(sheet, labels, self.name(), last, self.colour())
     }
 }
 
@@ -85,40 +85,39 @@ fn add_named(
     pages: u64,
     colour: &'static str,
 ) -> Result<(), AllocError> {
-    let size = Size(pages);
-    let text = format!(in sheet.alloc; "{name} {size}")?;
-    let label = Label::new(sheet.alloc, sheet.down(pages), colour, text.as_str())?;
-    add_label(labels, label)
+    let mut text = Draft::new(sheet.alloc);
+    text.text(name);
+    text.text(" ");
+    text.write_fmt(Size(pages));
+    add_label(labels, Label::new(sheet.down(pages), colour, text))
 }
 
 /// Draws a watermark, and adds its label.
 fn draw_watermark(
-    out: &mut String,
+    out: &mut Draft,
     sheet: Sheet,
     labels: &mut Vec<Label>,
     name: &str,
     pages: u64,
 ) -> Result<(), AllocError> {
-    let left = pixels(sheet.alloc, LEFT)?;
-    let right = pixels(sheet.alloc, RIGHT)?;
-    let y = pixels(sheet.alloc, sheet.down(pages))?;
-    writeln!(
-        out,
-        "<path d=\"M{left} {y}H{right}\" stroke=\"#7b4fb5\" stroke-dasharray=\"2 3\"/>"
-    )?;
+    out.text("<path d=\"");
+    add_point(out, "M", LEFT, sheet.down(pages));
+    out.text("H");
+    add_pixels(out, RIGHT);
+    out.text("\" stroke=\"#7b4fb5\" stroke-dasharray=\"2 3\"/>\n");
     add_named(sheet, labels, name, pages, "#7b4fb5")
 }
 
 /// Draws the frames in use, the free ones with the watermarks, and the swap in use.
 pub fn draw_machine(
-    out: &mut String,
+    out: &mut Draft,
     sheet: Sheet,
     ticks: &Ticks,
     columns: Columns<'_>,
     sizes: Sizes,
 ) -> Result<(), AllocError> {
     sheet.add_sizes(out)?;
-    sheet.add_border(out, ticks)?;
+    sheet.add_border(out, ticks);
     if columns.rows.is_empty() {
         return Ok(());
     }
@@ -133,5 +132,6 @@ pub fn draw_machine(
     if sizes.swap > 0 {
         Curve::Swap.draw(out, sheet, columns, &mut labels)?;
     }
-    draw_labels(sheet.alloc, out, labels, sheet.bottom)
+    draw_labels(out, labels, sheet.bottom);
+    Ok(())
 }

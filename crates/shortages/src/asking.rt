@@ -1,7 +1,7 @@
 //! How a machine is asked: the turns of a command, and single events.
 
 ghost use Rattle.std.specs.Prelude.{◌≡◌, ◌<◌, ℕ};
-ghost use Rattle.book.specs.Replies.{Replies};
+ghost use Rattle.book_events.specs.Replies.{Replies};
 ghost use Rattle.turns.specs.Tickets.{IsOwn, OwnEvent, OwnReply, OwnStage, OwnTransition, IsHanded};
 
 use crate::hunt::{Hunt, Told};

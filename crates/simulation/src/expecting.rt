@@ -2,6 +2,7 @@
 
 use crate::run::{Run, say};
 use block_store::MemDevice;
+use drafts::Draft;
 use driver::{Actor, Answer, Command, Stepper};
 use machine::text::Text;
 use scenario_faults::Problem;
@@ -113,25 +114,41 @@ impl<'p> Run<'p> {
             let text = format!(in alloc; "{word}")?;
             met = met && text.as_str() == wanted;
         }
-        let mut found = String::new(alloc);
+        let mut found = Draft::new(alloc);
         if refused.is_empty() {
-            found.push_str("nothing was refused")?;
+            found.text("nothing was refused");
         } else {
-            found.push_str("refused with ")?;
-            add_words(&mut found, refused.as_slice())?;
+            found.text("refused with ");
+            add_words(&mut found, refused.as_slice());
         }
-        let mut place = String::new(alloc);
+        let mut place = Draft::new(alloc);
         if met {
-            self.refusals.add_first_place(&mut place, line, rounds)?;
-            writeln!(place, ": refused with {wanted}, as expected")?;
+            self.refusals.add_first_place(&mut place, line, rounds);
+            writeln!(place, ": refused with {wanted}, as expected");
         }
         self.refusals.remove_expected(line, rounds);
         let verdict = Verdict {
             met,
-            found,
+            found: found.finish()?,
             number: None,
         };
-        Ok((verdict, place))
+        Ok((verdict, place.finish()?))
+    }
+
+    /// The line of an expectation.
+    fn verdict_text(&self, words: &Text, verdict: &Verdict) -> Result<String, AllocError> {
+        let mut text = self.place();
+        text.text("  ");
+        text.text(words.as_str());
+        text.text(": ");
+        if verdict.met {
+            text.text("as expected");
+        } else {
+            text.text("NOT MET, ");
+            text.text(verdict.found.as_str());
+        }
+        text.text("\n");
+        text.finish()
     }
 
     /// Tells whether an expectation is met.
@@ -152,13 +169,7 @@ impl<'p> Run<'p> {
             }
             Prints::Chart | Prints::Csv | Prints::Unmet => return Ok(()),
         }
-        let mut text = self.place()?;
-        write!(text, "  {}: ", words.as_str())?;
-        if verdict.met {
-            text.push_str("as expected\n")?;
-        } else {
-            writeln!(text, "NOT MET, {}", verdict.found)?;
-        }
+        let text = self.verdict_text(words, verdict)?;
         say(out, text.as_str())
     }
 

@@ -2,6 +2,7 @@
 
 use crate::run::{Course, Run, say};
 use block_store::MemDevice;
+use drafts::Draft;
 use driver::{Stepper, Word};
 use scenario_faults::Problem;
 use scenario_lines::burst::Condition;
@@ -18,35 +19,43 @@ pub const MOST_KILLS_TOLD: u64 = 20;
 
 impl<'p> Run<'p> {
     /// Begins a line with the place of the last item.
-    pub fn place(&self) -> Result<String, AllocError> {
-        let mut text = String::new(self.alloc);
+    pub fn place(&self) -> Draft {
+        let mut text = Draft::new(self.alloc);
         let line = self.expansion.line();
         let rounds = self.expansion.rounds();
         if self.asked.prints != Prints::Unmet {
-            add_place(&mut text, line, rounds)?;
-            return Ok(text);
+            add_place(&mut text, line, rounds);
+            return text;
         }
-        write!(text, "{}:{line}:", self.asked.name)?;
+        text.text(self.asked.name);
+        write!(text, ":{line}:");
         if !rounds.is_empty() {
-            text.push_str(" round ")?;
-            add_rounds(&mut text, rounds)?;
+            text.text(" round ");
+            add_rounds(&mut text, rounds);
         }
-        Ok(text)
+        text
+    }
+
+    /// Adds the words of the last entry. `task` is the task of an entry that is a task's.
+    fn add_entry(&self, text: &mut Draft, task: Option<u32>) -> Result<(), AllocError> {
+        let words = self.expansion.words()?;
+        add_line(text, self.expansion.scene(), words.as_str(), task);
+        Ok(())
     }
 
     /// The words of the last entry. `task` is the task of an entry that is a task's.
     pub fn words(&self, task: Option<u32>) -> Result<String, AllocError> {
-        let words = self.expansion.words()?;
-        let mut text = String::new(self.alloc);
-        add_line(&mut text, self.expansion.scene(), words.as_str(), task)?;
-        Ok(text)
+        let mut text = Draft::new(self.alloc);
+        self.add_entry(&mut text, task)?;
+        text.finish()
     }
 
     /// Begins a line with the place and the words of the last entry.
-    fn place_and_words(&self, task: Option<u32>) -> Result<String, AllocError> {
-        let mut text = self.place()?;
-        let words = self.words(task)?;
-        write!(text, "  {words}: ")?;
+    fn place_and_words(&self, task: Option<u32>) -> Result<Draft, AllocError> {
+        let mut text = self.place();
+        text.text("  ");
+        self.add_entry(&mut text, task)?;
+        text.text(": ");
         Ok(text)
     }
 
@@ -71,26 +80,44 @@ impl<'p> Run<'p> {
     }
 
     /// Adds who died with the victim.
-    fn add_others(
-        &self,
-        text: &mut String,
-        place: usize,
-        victims: &[u32],
-    ) -> Result<(), AllocError> {
+    fn add_others(&self, text: &mut Draft, place: usize, victims: &[u32]) {
         let others = victims.get(1..).unwrap_or(&[]);
         if others.is_empty() {
-            return Ok(());
+            return;
         }
         let Some(doomed) = self.watch.kill_at(place) else {
-            return Ok(());
+            return;
         };
         let Some(group) = doomed.group else {
-            return Ok(());
+            return;
         };
-        text.push_str(", and with it all of ")?;
-        add_true_path(text, self.expansion.names(), self.watch.path_at(group))?;
-        text.push_str(": ")?;
-        add_tasks(text, self.expansion.scene(), others)
+        text.text(", and with it all of ");
+        add_true_path(text, self.expansion.names(), self.watch.path_at(group));
+        text.text(": ");
+        add_tasks(text, self.expansion.scene(), others);
+    }
+
+    /// Adds who was killed, and why.
+    fn add_kill(&self, text: &mut Draft, place: usize, victims: &[u32]) {
+        let scene = self.expansion.scene();
+        if let Some(victim) = victims.first() {
+            add_task(text, scene, *victim);
+        }
+        text.text(" is killed");
+        self.add_others(text, place, victims);
+        if let Some(doomed) = self.watch.kill_at(place) {
+            text.text(" (");
+            add_reason(
+                text,
+                scene,
+                self.expansion.names(),
+                scene.page(),
+                self.watch.paths(),
+                doomed,
+            );
+            text.text(")");
+        }
+        text.text("\n");
     }
 
     /// The line of a kill.
@@ -100,27 +127,9 @@ impl<'p> Run<'p> {
         victims: &[u32],
         task: Option<u32>,
     ) -> Result<String, AllocError> {
-        let scene = self.expansion.scene();
         let mut text = self.place_and_words(task)?;
-        if let Some(victim) = victims.first() {
-            add_task(&mut text, scene, *victim)?;
-        }
-        text.push_str(" is killed")?;
-        self.add_others(&mut text, place, victims)?;
-        if let Some(doomed) = self.watch.kill_at(place) {
-            text.push_str(" (")?;
-            add_reason(
-                &mut text,
-                scene,
-                self.expansion.names(),
-                scene.page(),
-                self.watch.paths(),
-                doomed,
-            )?;
-            text.push(')')?;
-        }
-        text.push('\n')?;
-        Ok(text)
+        self.add_kill(&mut text, place, victims);
+        text.finish()
     }
 
     /// Tells the kills of an entry, and counts the lines after a task's death.
@@ -165,8 +174,7 @@ impl<'p> Run<'p> {
             Prints::Chart | Prints::Csv => {}
         }
         for victim in victims {
-            let mut name = String::new(self.alloc);
-            add_task(&mut name, self.expansion.scene(), *victim)?;
+            let name = self.task_name(*victim)?;
             self.pace.add_death(name)?;
         }
         Ok(())
@@ -201,6 +209,18 @@ impl<'p> Run<'p> {
         }
     }
 
+    /// The line of a refusal.
+    fn refusal_text(&self, words: &[Word], task: Option<u32>) -> Result<String, AllocError> {
+        let mut text = self.place_and_words(task)?;
+        text.text("refused with ");
+        add_words(&mut text, words);
+        if let (Some((actor, command)), [word]) = (&self.done, words) {
+            self.add_why(&mut text, *actor, command, *word)?;
+        }
+        text.text("\n");
+        text.finish()
+    }
+
     /// Prints a refusal. The report has an expected one at the line that expects it.
     fn print_refusal<O: Write>(
         &self,
@@ -211,13 +231,7 @@ impl<'p> Run<'p> {
     ) -> Result<(), Problem> {
         match self.asked.prints {
             Prints::Report | Prints::Unmet if !expected => {
-                let mut text = self.place_and_words(task)?;
-                text.push_str("refused with ")?;
-                add_words(&mut text, words)?;
-                if let (Some((actor, command)), [word]) = (&self.done, words) {
-                    self.add_why(&mut text, *actor, command, *word)?;
-                }
-                text.push('\n')?;
+                let text = self.refusal_text(words, task)?;
                 say(out, text.as_str())
             }
             Prints::Json => {

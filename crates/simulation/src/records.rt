@@ -2,6 +2,7 @@
 
 use crate::run::Run;
 use block_store::MemDevice;
+use drafts::Draft;
 use driver::{Stepper, Word};
 use machine::event::Cause;
 use machine::text::Text;
@@ -12,6 +13,7 @@ use scenario_reports::causes::Doomed;
 use scenario_reports::checked::Checked;
 use scenario_reports::telling::{add_task, add_true_path};
 use scenario_reports::verdicts::Verdict;
+use scenario_words::paths::Path;
 use scenario_words::word::Filled;
 use std::alloc::AllocError;
 
@@ -26,20 +28,35 @@ fn name_of(cause: Cause) -> &'static str {
 
 impl<'p> Run<'p> {
     /// Begins an object with the place of the last item.
-    fn object(&self, record: &str) -> Result<Object, AllocError> {
-        let mut object = Object::new(self.alloc, record)?;
-        object.place(self.expansion.line(), self.expansion.rounds())?;
-        Ok(object)
+    fn object(&self, record: &str) -> Object {
+        let mut object = Object::new(self.alloc, record);
+        object.place(self.expansion.line(), self.expansion.rounds());
+        object
     }
 
-    fn task_name(&self, task: u32) -> Result<String, AllocError> {
-        let mut name = String::new(self.alloc);
-        add_task(&mut name, self.expansion.scene(), task)?;
-        Ok(name)
+    /// The name of a task.
+    pub fn task_name(&self, task: u32) -> Result<String, AllocError> {
+        let mut name = Draft::new(self.alloc);
+        add_task(&mut name, self.expansion.scene(), task);
+        name.finish()
+    }
+
+    /// Adds the words of the last entry.
+    fn record_words(&self, object: &mut Object, task: Option<u32>) -> Result<(), AllocError> {
+        let words = self.words(task)?;
+        object.text("words", words.as_str());
+        Ok(())
+    }
+
+    /// Adds the name of a task.
+    fn record_task(&self, object: &mut Object, task: u32) -> Result<(), AllocError> {
+        let name = self.task_name(task)?;
+        object.text("task", name.as_str());
+        Ok(())
     }
 
     /// Adds the true path of a group at this place among the paths, or the root's.
-    fn add_path_at(
+    fn record_path(
         &self,
         object: &mut Object,
         key: &str,
@@ -49,23 +66,54 @@ impl<'p> Run<'p> {
             None => "/",
             Some(place) => self.watch.path_at(place),
         };
-        let mut path = String::new(self.alloc);
-        add_true_path(&mut path, self.expansion.names(), script)?;
-        object.text(key, path.as_str())
+        let mut path = Draft::new(self.alloc);
+        add_true_path(&mut path, self.expansion.names(), script);
+        object.text(key, path.finish()?.as_str());
+        Ok(())
     }
 
     /// Adds how large the task was, among how many, and why room was needed.
-    fn add_doom(&self, object: &mut Object, doomed: Doomed) -> Result<(), AllocError> {
+    fn record_doom(&self, object: &mut Object, doomed: Doomed) -> Result<(), AllocError> {
         let page = self.expansion.scene().page();
-        object.number("size", bytes_of(page, doomed.victim.pages as u64))?;
-        object.number("tasks", u64::from(doomed.victim.tasks))?;
-        object.text("cause", name_of(doomed.cause))?;
-        self.add_path_at(object, "limit", doomed.limit)?;
+        object.number("size", bytes_of(page, doomed.victim.pages as u64));
+        object.number("tasks", u64::from(doomed.victim.tasks));
+        object.text("cause", name_of(doomed.cause));
+        self.record_path(object, "limit", doomed.limit)?;
         let max = match (doomed.cause, finite(doomed.max)) {
             (Cause::Charge(_) | Cause::Lower(_), Some(pages)) => Some(bytes_of(page, pages)),
             _ => None,
         };
-        object.perhaps("max", max)
+        object.perhaps("max", max);
+        Ok(())
+    }
+
+    /// Adds the tasks that died with a victim.
+    fn record_others(&self, object: &mut Object, victims: &[u32]) -> Result<(), AllocError> {
+        let mut others = Vec::new(self.alloc);
+        for other in victims.get(1..).unwrap_or(&[]) {
+            others.push(self.task_name(*other)?)?;
+        }
+        object.texts("with", others.as_slice());
+        Ok(())
+    }
+
+    /// Adds what is known of a kill.
+    fn record_kill(
+        &self,
+        object: &mut Object,
+        place: usize,
+        victims: &[u32],
+        task: Option<u32>,
+    ) -> Result<(), AllocError> {
+        self.record_words(object, task)?;
+        if let Some(victim) = victims.first() {
+            self.record_task(object, *victim)?;
+        }
+        self.record_others(object, victims)?;
+        match self.watch.kill_at(place) {
+            None => Ok(()),
+            Some(doomed) => self.record_doom(object, doomed),
+        }
     }
 
     /// A kill: `with` are the tasks that died with the victim, since its group is killed as one.
@@ -75,20 +123,20 @@ impl<'p> Run<'p> {
         victims: &[u32],
         task: Option<u32>,
     ) -> Result<Vec<u8>, AllocError> {
-        let mut object = self.object("kill")?;
-        object.text("words", self.words(task)?.as_str())?;
-        if let Some(victim) = victims.first() {
-            object.text("task", self.task_name(*victim)?.as_str())?;
-        }
-        let mut others = Vec::new(self.alloc);
-        for other in victims.get(1..).unwrap_or(&[]) {
-            others.push(self.task_name(*other)?)?;
-        }
-        object.texts("with", others.as_slice())?;
-        if let Some(doomed) = self.watch.kill_at(place) {
-            self.add_doom(&mut object, doomed)?;
-        }
+        let mut object = self.object("kill");
+        self.record_kill(&mut object, place, victims, task)?;
         object.line()
+    }
+
+    /// Adds the answers to an entry.
+    fn record_answers(&self, object: &mut Object, words: &[Word]) -> Result<(), AllocError> {
+        let alloc = self.alloc;
+        let mut answers = Vec::new(alloc);
+        for word in words {
+            answers.push(format!(in alloc; "{word}")?)?;
+        }
+        object.texts("answers", answers.as_slice());
+        Ok(())
     }
 
     /// An entry that was refused.
@@ -98,26 +146,56 @@ impl<'p> Run<'p> {
         task: Option<u32>,
         expected: bool,
     ) -> Result<Vec<u8>, AllocError> {
-        let alloc = self.alloc;
-        let mut object = self.object("refused")?;
-        object.text("words", self.words(task)?.as_str())?;
-        let mut answers = Vec::new(alloc);
-        for word in words {
-            answers.push(format!(in alloc; "{word}")?)?;
-        }
-        object.texts("answers", answers.as_slice())?;
-        object.boolean("expected", expected)?;
+        let mut object = self.object("refused");
+        self.record_words(&mut object, task)?;
+        self.record_answers(&mut object, words)?;
+        object.boolean("expected", expected);
         object.line()
     }
 
     /// An expectation: `number` is the bytes or the count that was found.
     pub fn expect_object(&self, words: &Text, verdict: &Verdict) -> Result<Vec<u8>, AllocError> {
-        let mut object = self.object("expect")?;
-        object.text("words", words.as_str())?;
-        object.boolean("met", verdict.met)?;
-        object.text("found", verdict.found.as_str())?;
-        object.perhaps("number", verdict.number)?;
+        let mut object = self.object("expect");
+        object.text("words", words.as_str());
+        object.boolean("met", verdict.met);
+        object.text("found", verdict.found.as_str());
+        object.perhaps("number", verdict.number);
         object.line()
+    }
+
+    /// Adds the group of this path, if the machine has it.
+    fn record_group(
+        &self,
+        object: &mut Object,
+        stepper: &Stepper<MemDevice>,
+        path: &Path,
+    ) -> Result<(), AllocError> {
+        let Some((shown, number, stats)) = self.shown_group(stepper, path)? else {
+            return Ok(());
+        };
+        let page = self.expansion.scene().page();
+        let group = Group {
+            path: shown.as_str(),
+            stats,
+        };
+        open_group(object, page, &group, self.baseline_of(number));
+        add_moved(object, page, self.by_group.moved_of(number));
+        object.close();
+        Ok(())
+    }
+
+    /// Adds the groups that a `show` names, or all.
+    fn record_groups(
+        &self,
+        object: &mut Object,
+        stepper: &Stepper<MemDevice>,
+        words: &[Filled],
+    ) -> Result<(), Problem> {
+        let paths = self.shown_groups(words)?;
+        for path in paths.iter() {
+            self.record_group(object, stepper, path)?;
+        }
+        Ok(())
     }
 
     /// A table: counts of groups, and what was moved, are those of the phase.
@@ -127,54 +205,49 @@ impl<'p> Run<'p> {
         words: &[Filled],
         moved: Moved,
     ) -> Result<Vec<u8>, Problem> {
-        let page = self.expansion.scene().page();
-        let mut object = self.object("show")?;
-        object.text("phase", self.phase.as_str())?;
-        add_moved(&mut object, page, moved)?;
-        object.begin("groups")?;
-        for path in self.shown_groups(words)? {
-            if let Some((shown, number, stats)) = self.shown_group(stepper, &path)? {
-                let group = Group {
-                    path: shown.as_str(),
-                    stats,
-                };
-                let then = self.baseline_of(number);
-                open_group(&mut object, page, &group, then)?;
-                add_moved(&mut object, page, self.by_group.moved_of(number))?;
-                object.close()?;
-            }
-        }
-        object.end()?;
+        let mut object = self.object("show");
+        object.text("phase", self.phase.as_str());
+        add_moved(&mut object, self.expansion.scene().page(), moved);
+        object.begin("groups");
+        self.record_groups(&mut object, stepper, words)?;
+        object.end();
         Ok(object.line()?)
     }
 
     /// The phase that begins.
     pub fn mark_object(&self) -> Result<Vec<u8>, AllocError> {
-        let mut object = self.object("mark")?;
-        object.text("phase", self.phase.as_str())?;
+        let mut object = self.object("mark");
+        object.text("phase", self.phase.as_str());
         object.line()
+    }
+
+    /// Adds the tasks that have lines after their deaths.
+    fn record_late(&self, object: &mut Object) -> Result<(), AllocError> {
+        let late = self.tasks.late(self.alloc)?;
+        for (task, lines) in late.iter() {
+            object.open();
+            self.record_task(object, *task)?;
+            object.number("lines", *lines);
+            object.close();
+        }
+        Ok(())
     }
 
     /// The end of the run.
     pub fn end_object(&self, checked: &Checked, moved: Moved) -> Result<Vec<u8>, AllocError> {
         let scene = self.expansion.scene();
         let page = scene.page();
-        let mut object = Object::new(self.alloc, "end")?;
-        object.boolean("as_expected", self.well)?;
-        object.number("memory", bytes_of(page, u64::from(scene.header.frames)))?;
-        object.number("swap", bytes_of(page, u64::from(scene.header.swap)))?;
-        object.number("groups", checked.groups as u64)?;
-        object.number("tasks", u64::from(checked.tasks))?;
-        object.number("killed", self.tasks.dead().len() as u64)?;
-        add_moved(&mut object, page, moved)?;
-        object.begin("late")?;
-        for (task, lines) in self.tasks.late(self.alloc)? {
-            object.open()?;
-            object.text("task", self.task_name(task)?.as_str())?;
-            object.number("lines", lines)?;
-            object.close()?;
-        }
-        object.end()?;
+        let mut object = Object::new(self.alloc, "end");
+        object.boolean("as_expected", self.well);
+        object.number("memory", bytes_of(page, u64::from(scene.header.frames)));
+        object.number("swap", bytes_of(page, u64::from(scene.header.swap)));
+        object.number("groups", checked.groups as u64);
+        object.number("tasks", u64::from(checked.tasks));
+        object.number("killed", self.tasks.dead().len() as u64);
+        add_moved(&mut object, page, moved);
+        object.begin("late");
+        self.record_late(&mut object)?;
+        object.end();
         object.line()
     }
 }

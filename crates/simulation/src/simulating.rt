@@ -10,13 +10,14 @@ ghost use Rattle.scenario_reports.specs.Faulty.{AreFaulty, IsFaulty, LacksName};
 use crate::outcomes::MOST_KILLS_TOLD;
 use crate::run::{Course, Run, say};
 use block_store::MemDevice;
+use drafts::Draft;
 use driver::{Actor, Stepper};
 use expansion::expansion::{Cuts, Expansion, Item};
 use files::blocks_for;
 use scenario_faults::{
     Failure, Problem, check_settings, problem_of, read_scenario, reported, settings_of,
 };
-use scenario_pictures::{Object, csv_head, picture_of};
+use scenario_pictures::{Moved, Object, csv_head, picture_of};
 use scenario_reports::asked::{Asked, Prints};
 use scenario_reports::checked::{Checked, check};
 use scenario_reports::confirming::confirmed;
@@ -103,8 +104,8 @@ impl<'p> Run<'p> {
                 say(out, text.as_str())
             }
             Prints::Json => {
-                let mut object = Object::new(self.alloc, "unreached")?;
-                object.number("line", line as u64)?;
+                let mut object = Object::new(self.alloc, "unreached");
+                object.number("line", line as u64);
                 let bytes = object.line()?;
                 out.write_all(bytes.as_slice())?;
                 Ok(())
@@ -180,17 +181,12 @@ impl<'p> Run<'p> {
     }
 
     /// The last lines of the report.
-    fn end_report<O: Write>(
-        &mut self,
-        stepper: &Stepper<MemDevice>,
-        checked: &Checked,
-        out: &mut O,
-    ) -> Result<(), Problem> {
-        let moved = self.moved(stepper);
+    fn last_lines(&self, checked: &Checked, moved: Moved) -> Result<String, AllocError> {
         let scene = self.expansion.scene();
-        let mut text = String::new(self.alloc);
+        let mut text = Draft::new(self.alloc);
         if self.kills > MOST_KILLS_TOLD {
-            writeln!(text, "{} more kills", self.kills - MOST_KILLS_TOLD)?;
+            text.number(self.kills - MOST_KILLS_TOLD);
+            text.text(" more kills\n");
         }
         add_late(self.alloc, &mut text, scene, &self.tasks)?;
         let killed = self.tasks.dead().len();
@@ -201,7 +197,19 @@ impl<'p> Run<'p> {
             checked.tasks,
             killed,
             moved,
-        )?;
+        );
+        text.finish()
+    }
+
+    /// Prints the last lines of the report.
+    fn end_report<O: Write>(
+        &mut self,
+        stepper: &Stepper<MemDevice>,
+        checked: &Checked,
+        out: &mut O,
+    ) -> Result<(), Problem> {
+        let moved = self.moved(stepper);
+        let text = self.last_lines(checked, moved)?;
         say(out, text.as_str())
     }
 }

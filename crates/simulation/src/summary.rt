@@ -4,7 +4,6 @@ use crate::run::Run;
 use block_store::MemDevice;
 use driver::Stepper;
 use scenario_reports::summary::Summary;
-use scenario_reports::telling::add_task;
 use std::alloc::AllocError;
 
 /// Names of killed tasks that are kept, at most.
@@ -17,9 +16,7 @@ impl<'p> Run<'p> {
         let scene = self.expansion.scene();
         let mut first = Vec::new(self.alloc);
         for task in self.tasks.dead().iter().take(MOST_NAMES) {
-            let mut name = String::new(self.alloc);
-            add_task(&mut name, scene, *task)?;
-            first.push(name)?;
+            first.push(self.task_name(*task)?)?;
         }
         Ok(Summary {
             page: scene.page(),

@@ -2,6 +2,7 @@
 
 use crate::run::{Run, say};
 use block_store::MemDevice;
+use drafts::Draft;
 use driver::Stepper;
 use scenario_faults::{Problem, add_path};
 use scenario_pictures::{Counts, Moved, Stats};
@@ -55,7 +56,7 @@ impl<'p> Run<'p> {
     /// Adds the row of a group, if the machine has it.
     fn add_group(
         &self,
-        text: &mut String,
+        text: &mut Draft,
         stepper: &Stepper<MemDevice>,
         path: &Path,
     ) -> Result<(), AllocError> {
@@ -71,7 +72,8 @@ impl<'p> Run<'p> {
             stats,
             then,
             self.by_group.moved_of(number),
-        )
+        );
+        Ok(())
     }
 
     /// The groups that a `show` names, or all.
@@ -94,14 +96,34 @@ impl<'p> Run<'p> {
     /// Adds the rows of the groups that a `show` names, or of all.
     fn add_rows(
         &self,
-        text: &mut String,
+        text: &mut Draft,
         stepper: &Stepper<MemDevice>,
         words: &[Filled],
     ) -> Result<(), Problem> {
-        for path in self.shown_groups(words)? {
-            self.add_group(text, stepper, &path)?;
+        let paths = self.shown_groups(words)?;
+        for path in paths.iter() {
+            self.add_group(text, stepper, path)?;
         }
         Ok(())
+    }
+
+    /// The table of a `show`.
+    fn show_text(
+        &self,
+        stepper: &Stepper<MemDevice>,
+        words: &[Filled],
+        moved: Moved,
+    ) -> Result<String, Problem> {
+        let mut text = self.place();
+        let characters = text.characters();
+        add_head(&mut text, characters);
+        self.add_rows(&mut text, stepper, words)?;
+        text.text("  ");
+        text.text(self.phase.as_str());
+        text.text(": ");
+        moved.add(&mut text, self.expansion.scene().page());
+        text.text("\n");
+        Ok(text.finish()?)
     }
 
     pub fn show<O: Write>(
@@ -112,22 +134,17 @@ impl<'p> Run<'p> {
     ) -> Result<(), Problem> {
         let moved = self.moved(stepper).since(self.phase_moved);
         match self.asked.prints {
-            Prints::Report => {}
+            Prints::Report => {
+                let text = self.show_text(stepper, words, moved)?;
+                say(out, text.as_str())
+            }
             Prints::Json => {
                 let bytes = self.show_object(stepper, words, moved)?;
                 out.write_all(bytes.as_slice())?;
-                return Ok(());
+                Ok(())
             }
-            Prints::Chart | Prints::Csv | Prints::Unmet => return Ok(()),
+            Prints::Chart | Prints::Csv | Prints::Unmet => Ok(()),
         }
-        let mut text = self.place()?;
-        let characters = text.len();
-        add_head(&mut text, characters)?;
-        self.add_rows(&mut text, stepper, words)?;
-        write!(text, "  {}: ", self.phase)?;
-        moved.add(&mut text, self.expansion.scene().page())?;
-        text.push('\n')?;
-        say(out, text.as_str())
     }
 
     /// What all groups have now.

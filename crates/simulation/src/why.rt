@@ -1,6 +1,7 @@
 //! Why the machine refused a line, if its command and the answer say so.
 
 use crate::run::Run;
+use drafts::Draft;
 use driver::{Actor, Command, Word};
 use explain::{Told, reason_of};
 use scenario_reports::commands::{add_refusal, true_command};
@@ -11,7 +12,7 @@ impl<'p> Run<'p> {
     /// Adds why a command was answered with a word, in brackets.
     pub fn add_why(
         &self,
-        text: &mut String,
+        text: &mut Draft,
         actor: Actor,
         command: &Command,
         word: Word,
@@ -20,9 +21,10 @@ impl<'p> Run<'p> {
             if let Some(unmoved) = self.watch.unmoved() {
                 let scene = self.expansion.scene();
                 let makes_room = matches!(command, Command::Access { .. });
-                text.push_str(" (")?;
-                add_unmoved(text, scene, self.watch.paths(), unmoved, makes_room)?;
-                return text.push(')');
+                text.text(" (");
+                add_unmoved(text, scene, self.watch.paths(), unmoved, makes_room);
+                text.text(")");
+                return Ok(());
             }
         }
         let command = true_command(self.alloc, self.expansion.names(), command)?;
@@ -35,13 +37,11 @@ impl<'p> Run<'p> {
             turns: 0,
             alloc: self.alloc,
         };
-        match reason_of(told, word) {
-            None => Ok(()),
-            Some(reason) => {
-                text.push_str(" (")?;
-                add_refusal(text, self.expansion.scene(), reason)?;
-                text.push(')')
-            }
+        if let Some(reason) = reason_of(told, word) {
+            text.text(" (");
+            add_refusal(text, self.expansion.scene(), reason);
+            text.text(")");
         }
+        Ok(())
     }
 }

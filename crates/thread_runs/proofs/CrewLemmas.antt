@@ -5,10 +5,10 @@ use Rattle.std.specs.List.{list_any, position_or_len}
 use Rattle.std.proofs.lemmas.Bool.Decides.{nat_tests}
 use Rattle.std.proofs.lemmas.List.{map-append, append-nil, length_push}
 use Rattle.std.proofs.lemmas.List.Recursion.{is_position_or_len}
-use Rattle.machine.specs.declared.config.Watermarks.{Watermarks}
 use Rattle.machine.specs.declared.command.Actor.{Actor}
 use Rattle.machine.specs.declared.command.Command.{Command}
 use Rattle.machine.specs.declared.command.Reply.{Reply}
+use Rattle.machine.specs.State.{Opening}
 use Rattle.live.specs.declared.history.Exchange.{Exchange}
 use Rattle.live.specs.Crews.{WorkerOf}
 use Rattle.scripts.specs.Work.{number_of, numbers_of}
@@ -171,7 +171,7 @@ module _ (who : Actor) (commands : List Command) (old new : List WorkerOf) (hire
 
 -- ---- a command that is answered at once
 
-module _ (marks : Watermarks) (who : Actor) (command : Command) (old new : List WorkerOf) (said : List Reply) (asked : Asked marks who command old new said) where
+module _ (opening : Opening) (who : Actor) (command : Command) (old new : List WorkerOf) (said : List Reply) (asked : Asked opening who command old new said) where
   abbrev was : WorkerOf
   was = slice_index_or asked.mid (place_of who asked.mid) asked.worker
 
@@ -181,13 +181,13 @@ module _ (marks : Watermarks) (who : Actor) (command : Command) (old new : List 
     | inr hired ↦ hires-board who [] old asked.mid hired other
   ]
 
-  pub asked-piece : Piece marks who (command ∷ []) (board_of old) said (board_of new)
+  pub asked-piece : Piece opening who (command ∷ []) (board_of old) said (board_of new)
   asked-piece =
       let answered = asked.answered in
-      let here : Piece marks who (command ∷ []) (board_of asked.mid) said (board_of (slice_set asked.mid (place_of who asked.mid) asked.worker)) =
-      set_piece marks who (command ∷ []) asked.mid asked.worker said asked.within answered.actor answered.worked in
-      subst (λ (ws : List WorkerOf). Piece marks who (command ∷ []) (board_of old) said (board_of ws)) (sym asked.changed)
-      (piece_from marks who (command ∷ []) (board_of asked.mid) (board_of old) _ said mid-board here)
+      let here : Piece opening who (command ∷ []) (board_of asked.mid) said (board_of (slice_set asked.mid (place_of who asked.mid) asked.worker)) =
+      set_piece opening who (command ∷ []) asked.mid asked.worker said asked.within answered.actor answered.worked in
+      subst (λ (ws : List WorkerOf). Piece opening who (command ∷ []) (board_of old) said (board_of ws)) (sym asked.changed)
+      (piece_from opening who (command ∷ []) (board_of asked.mid) (board_of old) _ said mid-board here)
 
   kept-jobs : jobs_of new ≡ jobs_of asked.mid
   kept-jobs = ap (λ (ws : List WorkerOf). jobs_of ws) asked.changed ∙ jobs-set asked.mid (place_of who asked.mid) asked.worker asked.within asked.answered.actor asked.answered.commands

@@ -2,10 +2,10 @@
 use Rattle.std.proofs.Common.{◌≡◌, inl, inr, ℕ, zero, suc, ◌+◌, ◌<◌, false, List, [], ◌∷◌, ◌++◌, length, refl, sym, ap, ◌∙◌, subst, arith}
 use Rattle.std.specs.Prelude.{slice_index_or, slice_set}
 use Rattle.std.proofs.lemmas.List.{map-append, length_push}
-use Rattle.machine.specs.declared.config.Watermarks.{Watermarks}
 use Rattle.machine.specs.declared.command.Actor.{Actor}
 use Rattle.machine.specs.declared.command.Command.{Command}
 use Rattle.machine.specs.declared.command.Reply.{Reply}
+use Rattle.machine.specs.State.{Opening}
 use Rattle.book.specs.declared.kept.Kept.{Kept}
 use Rattle.live.specs.Passes.{PassOf}
 use Rattle.live.specs.Crews.{WorkerOf}
@@ -39,18 +39,18 @@ set-rest [] k w within rest on = absurd (omega arith)
 set-rest (v ∷ ws) zero w within rest on = (on rest.0, rest.1)
 set-rest (v ∷ ws) (suc k) w within rest on = (rest.0, set-rest ws k w (omega arith) rest.1 on)
 
-pub asked-rest : (marks : Watermarks) (who : Actor) (command : Command) (old new : List WorkerOf) (said : List Reply) → Asked marks who command old new said → AreAtRest (passes_in old) → AreAtRest (passes_in new)
-asked-rest marks who command old new said h rest =
+pub asked-rest : (opening : Opening) (who : Actor) (command : Command) (old new : List WorkerOf) (said : List Reply) → Asked opening who command old new said → AreAtRest (passes_in old) → AreAtRest (passes_in new)
+asked-rest opening who command old new said h rest =
     let mid : AreAtRest (passes_in h.mid) = elim h.there [
       | inl same ↦ subst (λ (ws : List WorkerOf). AreAtRest (passes_in ws)) (sym same) rest
       | inr hired ↦ hires-rest who [] old h.mid hired rest
     ] in
     subst (λ (ws : List WorkerOf). AreAtRest (passes_in ws)) (sym h.changed) (set-rest h.mid (place_of who h.mid) h.worker h.within mid h.answered.rest)
 
-pub worked-rest : (marks : Watermarks) (ws vs : List WorkerOf) → EachWorked marks ws vs → AreAtRest (passes_in ws) → AreAtRest (passes_in vs)
-worked-rest marks [] vs h rest = subst (λ (us : List WorkerOf). AreAtRest (passes_in us)) (sym h) rest
-worked-rest marks (w ∷ ws) [] h rest = absurd h
-worked-rest marks (w ∷ ws) (v ∷ vs) h rest = (h.0.rest rest.0, worked-rest marks ws vs h.1 rest.1)
+pub worked-rest : (opening : Opening) (ws vs : List WorkerOf) → EachWorked opening ws vs → AreAtRest (passes_in ws) → AreAtRest (passes_in vs)
+worked-rest opening [] vs h rest = subst (λ (us : List WorkerOf). AreAtRest (passes_in us)) (sym h) rest
+worked-rest opening (w ∷ ws) [] h rest = absurd h
+worked-rest opening (w ∷ ws) (v ∷ vs) h rest = (h.0.rest rest.0, worked-rest opening ws vs h.1 rest.1)
 
 -- ---- how many there are
 

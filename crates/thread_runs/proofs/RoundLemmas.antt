@@ -5,12 +5,12 @@ use Rattle.std.specs.Io.KnownBytes.{Appends}
 use Rattle.std.proofs.KnownBytes.{Appends-nil, Appends-trans}
 use Rattle.std.proofs.lemmas.List.{map-append, append-nil, take-append-drop, take-append-le, take-map}
 use Rattle.std.proofs.Math.Seq.{take-length}
-use Rattle.machine.specs.declared.config.Watermarks.{Watermarks}
 use Rattle.machine.specs.declared.command.Actor.{Actor}
 use Rattle.machine.specs.declared.command.Actor.TheVariants as actor
 use Rattle.machine.specs.declared.command.Command.{Command}
 use Rattle.machine.specs.declared.command.Command.TheVariants as command
 use Rattle.machine.specs.declared.command.Reply.{Reply}
+use Rattle.machine.specs.State.{Opening}
 use Rattle.live.specs.declared.history.Exchange.{Exchange}
 use Rattle.live.specs.Passes.{PassOf}
 use Rattle.live.specs.Crews.{WorkerOf, HaveWorked}
@@ -47,27 +47,27 @@ hired-push rows who commands old new all one = record {
 
 -- ---- what stands before the threads go
 
-module _ (marks : Watermarks) where
-  pub sets_up-nil : (ws : List WorkerOf) (a : Option (List ℕ)) → SetsUp marks [] ws ws a a
+module _ (opening : Opening) where
+  pub sets_up-nil : (ws : List WorkerOf) (a : Option (List ℕ)) → SetsUp opening [] ws ws a a
   sets_up-nil ws a = record { said = []; pieces = (refl, λ who. refl); more = []; jobs = sym (append-nil (jobs_of ws)); apart = λ h. h; rest = λ h. h; prints = Appends-nil a }
 
-  pub sets_up-one : (who : Actor) (command : Command) (old new : List WorkerOf) (said : List Reply) (a b : Option (List ℕ)) → Asked marks who command old new said → Appends a b (texts said) → SetsUp marks ((who, command) ∷ []) old new a b
+  pub sets_up-one : (who : Actor) (command : Command) (old new : List WorkerOf) (said : List Reply) (a b : Option (List ℕ)) → Asked opening who command old new said → Appends a b (texts said) → SetsUp opening ((who, command) ∷ []) old new a b
   sets_up-one who command old new said a b asked printed = record {
     said = said;
-    pieces = (board_of new, said, [], asked-piece marks who command old new said asked, (refl, λ other. refl), sym (append-nil said));
-    more = (asked-more marks who command old new said asked).0;
-    jobs = (asked-more marks who command old new said asked).1;
-    apart = asked-apart marks who command old new said asked;
-    rest = asked-rest marks who command old new said asked;
+    pieces = (board_of new, said, [], asked-piece opening who command old new said asked, (refl, λ other. refl), sym (append-nil said));
+    more = (asked-more opening who command old new said asked).0;
+    jobs = (asked-more opening who command old new said asked).1;
+    apart = asked-apart opening who command old new said asked;
+    rest = asked-rest opening who command old new said asked;
     prints = printed;
   }
 
-  pub sets_up-append : (ps qs : List Line) (old mid new : List WorkerOf) (a b c : Option (List ℕ)) → SetsUp marks ps old mid a b → SetsUp marks qs mid new b c → SetsUp marks (ps ++ qs) old new a c
+  pub sets_up-append : (ps qs : List Line) (old mid new : List WorkerOf) (a b c : Option (List ℕ)) → SetsUp opening ps old mid a b → SetsUp opening qs mid new b c → SetsUp opening (ps ++ qs) old new a c
   sets_up-append ps qs old mid new a b c first second =
-      let both = pieces-append marks (pieces_of ps) (pieces_of qs) (board_of old) (board_of mid) (board_of new) first.said second.said first.pieces second.pieces in
+      let both = pieces-append opening (pieces_of ps) (pieces_of qs) (board_of old) (board_of mid) (board_of new) first.said second.said first.pieces second.pieces in
       record {
         said = first.said ++ second.said;
-        pieces = subst (λ (js : List Job). Pieces marks js (board_of old) (first.said ++ second.said) (board_of new)) (sym (map-append (λ (p : Line). (p.0, p.1 ∷ [])) ps qs)) both;
+        pieces = subst (λ (js : List Job). Pieces opening js (board_of old) (first.said ++ second.said) (board_of new)) (sym (map-append (λ (p : Line). (p.0, p.1 ∷ [])) ps qs)) both;
         more = first.more ++ second.more;
         jobs = second.jobs ∙ ap (λ (js : List Job). js ++ second.more) first.jobs ∙ append_assoc (jobs_of old) first.more second.more;
         apart = λ h. second.apart (first.apart h);
@@ -127,27 +127,27 @@ apart-front : (ms ns : List ℕ) → IsApart (ms ++ ns) → IsApart ms
 apart-front [] ns h = tt
 apart-front (m ∷ ms) ns h = (among-front m ms ns h.0, apart-front ms ns h.1)
 
-jobs-worked : (marks : Watermarks) (ws vs : List WorkerOf) → EachWorked marks ws vs → jobs_of vs ≡ jobs_of ws
-jobs-worked marks [] [] h = refl
-jobs-worked marks [] (v ∷ vs) h = ap (λ (us : List WorkerOf). jobs_of us) h
-jobs-worked marks (w ∷ ws) [] h = absurd h
-jobs-worked marks (w ∷ ws) (v ∷ vs) (did, rest) =
-    same_cons (v.actor, v.commands) (w.actor, w.commands) _ _ (ap (λ (a : Actor). (a, v.commands)) did.actor ∙ ap (λ (cs : List Command). (w.actor, cs)) did.commands) (jobs-worked marks ws vs rest)
+jobs-worked : (opening : Opening) (ws vs : List WorkerOf) → EachWorked opening ws vs → jobs_of vs ≡ jobs_of ws
+jobs-worked opening [] [] h = refl
+jobs-worked opening [] (v ∷ vs) h = ap (λ (us : List WorkerOf). jobs_of us) h
+jobs-worked opening (w ∷ ws) [] h = absurd h
+jobs-worked opening (w ∷ ws) (v ∷ vs) (did, rest) =
+    same_cons (v.actor, v.commands) (w.actor, w.commands) _ _ (ap (λ (a : Actor). (a, v.commands)) did.actor ∙ ap (λ (cs : List Command). (w.actor, cs)) did.commands) (jobs-worked opening ws vs rest)
 
 -- those who were there are there still, behind lines that were set up
 length-workers : (ws : List WorkerOf) → length (jobs_of ws) ≡ length ws
 length-workers [] = refl
 length-workers (w ∷ ws) = ap suc (length-workers ws)
 
-pub set_up-more : (marks : Watermarks) (setup : List Line) (old new : List WorkerOf) (a b : Option (List ℕ)) (count : ℕ) → SetsUp marks setup old new a b → count ≡ length old → count ≤ length new
-set_up-more marks setup old new a b count sets is =
+pub set_up-more : (opening : Opening) (setup : List Line) (old new : List WorkerOf) (a b : Option (List ℕ)) (count : ℕ) → SetsUp opening setup old new a b → count ≡ length old → count ≤ length new
+set_up-more opening setup old new a b count sets is =
     omega (arith, ap length sets.jobs, length-append (jobs_of old) sets.more, length-workers old, length-workers new, is)
 
 -- what is behind a run, but for its trace
-module _ (marks : Watermarks) (setup : List Line) (rows : List Job) (hired ready workers others worked : List WorkerOf) (a b c : Option (List ℕ)) (all : HiredAll rows hired) (sets : SetsUp marks setup hired ready a b)
-    (front : workers ≡ take (length hired) ready) (back : others ≡ drop (length hired) ready) (did : HaveWorked marks workers worked) (len : length worked ≡ length workers) (says : SaysRows worked b c) where
-  each : EachWorked marks workers worked
-  each = each_worked marks workers worked len did
+module _ (opening : Opening) (setup : List Line) (rows : List Job) (hired ready workers others worked : List WorkerOf) (a b c : Option (List ℕ)) (all : HiredAll rows hired) (sets : SetsUp opening setup hired ready a b)
+    (front : workers ≡ take (length hired) ready) (back : others ≡ drop (length hired) ready) (did : HaveWorked opening workers worked) (len : length worked ≡ length workers) (says : SaysRows worked b c) where
+  each : EachWorked opening workers worked
+  each = each_worked opening workers worked len did
 
   whole : workers ++ others ≡ ready
   whole = ap (λ (ws : List WorkerOf). ws ++ others) front ∙ ap (λ (ws : List WorkerOf). take (length hired) ready ++ ws) back ∙ take-append-drop (length hired) ready
@@ -181,31 +181,31 @@ module _ (marks : Watermarks) (setup : List Line) (rows : List Job) (hired ready
   apart-after : IsApart (numbers_of (jobs_of (worked ++ others)))
   apart-after =
       let same : numbers_of (jobs_of (workers ++ others)) ≡ numbers_of (jobs_of (worked ++ others)) =
-      numbers-append workers others ∙ ap (λ (js : List Job). numbers_of js ++ numbers_of (jobs_of others)) (sym (jobs-worked marks workers worked each)) ∙ sym (numbers-append worked others) in
+      numbers-append workers others ∙ ap (λ (js : List Job). numbers_of js ++ numbers_of (jobs_of others)) (sym (jobs-worked opening workers worked each)) ∙ sym (numbers-append worked others) in
       subst IsApart same apart-all
 
-  works : Pieces marks rows (board_of ready) says.answers (board_of (worked ++ others))
+  works : Pieces opening rows (board_of ready) says.answers (board_of (worked ++ others))
   works =
-      let pieces = work_pieces marks workers worked (board_of others) says.answers each says.are apart-workers in
+      let pieces = work_pieces opening workers worked (board_of others) says.answers each says.are apart-workers in
       let from : boards workers (board_of others) ≡ board_of ready = sym (board_of-append workers others) ∙ ap (λ (ws : List WorkerOf). board_of ws) whole in
       let to : boards worked (board_of others) ≡ board_of (worked ++ others) = sym (board_of-append worked others) in
-      subst (λ (js : List Job). Pieces marks js (board_of ready) says.answers (board_of (worked ++ others))) jobs
-      (subst (λ (board : Board). Pieces marks (jobs_of workers) board says.answers (board_of (worked ++ others))) from
-      (subst (λ (board : Board). Pieces marks (jobs_of workers) (boards workers (board_of others)) says.answers board) to pieces))
+      subst (λ (js : List Job). Pieces opening js (board_of ready) says.answers (board_of (worked ++ others))) jobs
+      (subst (λ (board : Board). Pieces opening (jobs_of workers) board says.answers (board_of (worked ++ others))) from
+      (subst (λ (board : Board). Pieces opening (jobs_of workers) (boards workers (board_of others)) says.answers board) to pieces))
 
-  pub ran : (fresh daemon : PassOf) (passes : List PassOf) → fresh.exchanges ≡ [] → Repeated marks actor.Daemon command.Daemon fresh.exchanges daemon.exchanges → passes ≡ passes_in worked ++ passes_in others ++ daemon ∷ [] → Ran marks setup rows passes a c
+  pub ran : (fresh daemon : PassOf) (passes : List PassOf) → fresh.exchanges ≡ [] → Repeated opening actor.Daemon command.Daemon fresh.exchanges daemon.exchanges → passes ≡ passes_in worked ++ passes_in others ++ daemon ∷ [] → Ran opening setup rows passes a c
   ran fresh daemon passes new repeated are =
       let us : List WorkerOf = worked ++ others in
       let in_all : passes ≡ passes_in us ++ daemon ∷ [] = are ∙ ap (λ (ps : List PassOf). ps ++ daemon ∷ []) (sym (map-append (λ (w : WorkerOf). w.pass) worked others)) in
       record {
         set_up = sets.said;
         board = board_of ready;
-        sets_up = pieces_from marks (pieces_of setup) (board_of hired) no_pass (board_of ready) sets.said all.fresh sets.pieces;
+        sets_up = pieces_from opening (pieces_of setup) (board_of hired) no_pass (board_of ready) sets.said all.fresh sets.pieces;
         answers = says.answers;
         last = board_of us;
         works = works;
         daemon = daemon.exchanges;
-        balances = subst (λ (es : List Exchange). Repeated marks actor.Daemon command.Daemon es daemon.exchanges) new repeated;
+        balances = subst (λ (es : List Exchange). Repeated opening actor.Daemon command.Daemon es daemon.exchanges) new repeated;
         actors = map (λ (w : WorkerOf). w.actor) us;
         exchanges = ap exchanged in_all ∙ map-append (λ (pass : PassOf). pass.exchanges) (passes_in us) (daemon ∷ []) ∙ ap (λ (all : List (List Exchange)). all ++ daemon.exchanges ∷ []) (kept_board us apart-after);
         all = has_worker us;
@@ -222,5 +222,5 @@ module _ (marks : Watermarks) (setup : List Line) (rows : List Job) (hired ready
       record {
         many =
             omega (arith, none, one, two, three, len, ap length whole, length-append workers others, ap length are, length-append (passes_in worked ++ passes_in others) (daemon ∷ []), length-append (passes_in worked) (passes_in others), length-passes worked, length-passes others);
-        rest = subst AreAtRest (sym are) (rest-append (passes_in worked ++ passes_in others) (daemon ∷ []) (rest-append (passes_in worked) (passes_in others) (worked-rest marks workers worked each parts.0) parts.1) last);
+        rest = subst AreAtRest (sym are) (rest-append (passes_in worked ++ passes_in others) (daemon ∷ []) (rest-append (passes_in worked) (passes_in others) (worked-rest opening workers worked each parts.0) parts.1) last);
       }

@@ -1,9 +1,9 @@
 -- The workers of a run on threads, each actor's once. No public clause cites this.
 use Rattle.std.specs.Prelude.{◌≡◌, ◌⊎◌, ℕ, ◌+◌, ◌<◌, ◌==◌, suc, Bool, List, [], ◌∷◌, ◌++◌, length, map, slice_index_or, slice_set, if◌then◌else◌, Ok}
-use Rattle.machine.specs.declared.config.Watermarks.{Watermarks}
 use Rattle.machine.specs.declared.command.Actor.{Actor}
 use Rattle.machine.specs.declared.command.Command.{Command}
 use Rattle.machine.specs.declared.command.Reply.{Reply}
+use Rattle.machine.specs.State.{Opening}
 use Rattle.live.specs.declared.history.Exchange.{Exchange}
 use Rattle.live.specs.Passes.{PassOf}
 use Rattle.live.specs.Crews.{WorkerOf, HasAnswered}
@@ -39,12 +39,12 @@ pub record Hires (who : Actor) (commands : List Command) (old new : List WorkerO
   pub hired : new ≡ old ++ record { actor = who; pass = pass; commands = commands; answers = Ok [] } ∷ []
 
 -- the actor's worker, who was hired where there was none, answered a command so
-pub record Asked (marks : Watermarks) (who : Actor) (command : Command) (old new : List WorkerOf) (said : List Reply) : Type 0 where
+pub record Asked (opening : Opening) (who : Actor) (command : Command) (old new : List WorkerOf) (said : List Reply) : Type 0 where
   pub mid : List WorkerOf
   pub there : (mid ≡ old) ⊎ Hires who [] old mid
   pub within : place_of who mid < length mid
   pub worker : WorkerOf
-  pub answered : HasAnswered marks command (slice_index_or mid (place_of who mid) worker) worker said
+  pub answered : HasAnswered opening command (slice_index_or mid (place_of who mid) worker) worker said
   pub changed : new ≡ slice_set mid (place_of who mid) worker
 
 -- as many more passes were given out as there are more workers

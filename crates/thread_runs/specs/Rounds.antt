@@ -1,7 +1,6 @@
 -- The rounds of a run on threads: words for its own functions. No public clause cites this.
 use Rattle.std.specs.Prelude.{◌≡◌, ◌≢◌, ℕ, ◌==◌, false, Result, Err, List, [], ◌∷◌, ◌++◌, length, Option, Contains, map, reverse, Ok, All}
 use Rattle.std.specs.Io.KnownBytes.{Appends}
-use Rattle.machine.specs.declared.config.Watermarks.{Watermarks}
 use Rattle.machine.specs.declared.command.Actor.{Actor}
 use Rattle.machine.specs.declared.command.Actor.TheVariants as actor
 use Rattle.machine.specs.declared.command.Command.{Command}
@@ -51,9 +50,9 @@ pub record HiredAll (rows : List (Actor × List Command)) (workers : List Worker
   pub rest : AreAtRest (passes_in workers)
 
 -- these commands were done one after the other, by workers that were there or were hired behind those, and a writer got the answers
-pub record SetsUp (marks : Watermarks) (setup : List (Actor × Command)) (old new : List WorkerOf) (before after : Option (List ℕ)) : Type 0 where
+pub record SetsUp (opening : Opening) (setup : List (Actor × Command)) (old new : List WorkerOf) (before after : Option (List ℕ)) : Type 0 where
   pub said : List Reply
-  pub pieces : Pieces marks (pieces_of setup) (board_of old) said (board_of new)
+  pub pieces : Pieces opening (pieces_of setup) (board_of old) said (board_of new)
   pub more : List (Actor × List Command)
   pub jobs : jobs_of new ≡ jobs_of old ++ more
   pub apart : IsApart (numbers_of (jobs_of old)) → IsApart (numbers_of (jobs_of new))
@@ -77,15 +76,15 @@ pub record AreHandedIn (given : ℕ) (passes : List PassOf) : Type 0 where
   pub rest : AreAtRest passes
 
 -- all but the trace of a run
-pub record Ran (marks : Watermarks) (setup : List (Actor × Command)) (work : List (Actor × List Command)) (passes : List PassOf) (before after : Option (List ℕ)) : Type 0 where
+pub record Ran (opening : Opening) (setup : List (Actor × Command)) (work : List (Actor × List Command)) (passes : List PassOf) (before after : Option (List ℕ)) : Type 0 where
   pub set_up : List Reply
   pub board : Board
-  pub sets_up : Pieces marks (pieces_of setup) no_pass set_up board
+  pub sets_up : Pieces opening (pieces_of setup) no_pass set_up board
   pub answers : List Reply
   pub last : Board
-  pub works : Pieces marks work board answers last
+  pub works : Pieces opening work board answers last
   pub daemon : List Exchange
-  pub balances : Repeated marks actor.Daemon command.Daemon [] daemon
+  pub balances : Repeated opening actor.Daemon command.Daemon [] daemon
   pub actors : List Actor
   pub exchanges : map (λ (pass : PassOf). pass.exchanges) passes ≡ map last actors ++ daemon ∷ []
   pub all : (who : Actor) → last who ≢ [] → Contains actors who
@@ -110,5 +109,5 @@ pub record Concluded (opening : Opening) (passes : List PassOf) (shown : State �
 pub record RanAll (opening : Opening) (setup : List (Actor × Command)) (work : List (Actor × List Command)) (shown : State → List ℕ) (verdict : Verdict) (before after : Option (List ℕ)) : Type 0 where
   pub passes : List PassOf
   pub mid : Option (List ℕ)
-  pub ran : Ran opening.watermarks setup work passes before mid
+  pub ran : Ran opening setup work passes before mid
   pub concluded : Concluded opening passes shown verdict mid after

@@ -5,7 +5,6 @@ use Rattle.std.specs.Io.KnownBytes.{Appends}
 use Rattle.std.specs.Str.Lines.{lines}
 use Rattle.machine.specs.declared.config.Config.{Config}
 use Rattle.machine.specs.declared.config.Placement.{Placement}
-use Rattle.machine.specs.declared.config.Watermarks.{Watermarks}
 use Rattle.machine.specs.declared.command.Actor.{Actor}
 use Rattle.machine.specs.declared.command.Actor.TheVariants as actor
 use Rattle.machine.specs.declared.command.Command.{Command}
@@ -13,7 +12,7 @@ use Rattle.machine.specs.declared.command.Command.TheVariants as command
 use Rattle.machine.specs.declared.command.Reply.{Reply}
 use Rattle.machine.specs.declared.entry.Entry.{Entry}
 use Rattle.machine.specs.Control.{line}
-use Rattle.machine.specs.State.{State, opening_of}
+use Rattle.machine.specs.State.{Opening, State, opening_of}
 use Rattle.machine.specs.History.{Numbered}
 use Rattle.machine.specs.FirstBytes.{first_of}
 use Rattle.machine.specs.Audit.{Passes, IsFirstWrong}
@@ -43,16 +42,16 @@ no_pass who = []
 
 -- an actor is asked for these commands, its exchanges go on with what that adds, and no other's does. (Excludes an actor that is answered for
 -- another.)
-pub record Piece (marks : Watermarks) (who : Actor) (commands : List Command) (before : Board) (said : List Reply) (after : Board) : Type 0 where
-  pub did : Worked marks who commands (before who) (after who) said
+pub record Piece (opening : Opening) (who : Actor) (commands : List Command) (before : Board) (said : List Reply) (after : Board) : Type 0 where
+  pub did : Worked opening who commands (before who) (after who) said
   pub others : (other : Actor) → other ≢ who → after other ≡ before other
 
 -- pieces, one behind the other; of the order in which different actors did what they did nothing is said
-abbrev pub Pieces : Watermarks → List (Actor × List Command) → Board → List Reply → Board → Type 0
-Pieces marks [] before said after = (said ≡ []) × ((who : Actor) → after who ≡ before who)
-Pieces marks (piece ∷ pieces) before said after =
+abbrev pub Pieces : Opening → List (Actor × List Command) → Board → List Reply → Board → Type 0
+Pieces opening [] before said after = (said ≡ []) × ((who : Actor) → after who ≡ before who)
+Pieces opening (piece ∷ pieces) before said after =
     (mid : Board) × (here : List Reply) × (later : List Reply)
-    × Piece marks piece.0 piece.1 before here mid × Pieces marks pieces mid later after × (said ≡ here ++ later)
+    × Piece opening piece.0 piece.1 before here mid × Pieces opening pieces mid later after × (said ≡ here ++ later)
 
 -- each command as a piece of its own
 abbrev pub pieces_of : List (Actor × Command) → List (Actor × List Command)
@@ -62,13 +61,13 @@ pieces_of setup = map (λ p. (p.0, p.1 ∷ [])) setup
 pub record RunOnThreads (config : Config) (setup work : List (Actor × List Command)) : Type 0 where
   pub set_up : List Reply
   pub board : Board
-  pub sets_up : Pieces config.watermarks setup no_pass set_up board
+  pub sets_up : Pieces (opening_of config) setup no_pass set_up board
   pub answers : List Reply
   pub last : Board
-  pub works : Pieces config.watermarks work board answers last
+  pub works : Pieces (opening_of config) work board answers last
   -- the daemon's exchanges
   pub daemon : List Exchange
-  pub balances : Repeated config.watermarks actor.Daemon command.Daemon [] daemon
+  pub balances : Repeated (opening_of config) actor.Daemon command.Daemon [] daemon
   -- all passes: one for each of these actors, among them all that were asked for something, and the daemon's
   pub passes : List PassOf
   pub actors : List Actor

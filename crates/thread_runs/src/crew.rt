@@ -122,7 +122,7 @@ impl<L: Opened> Crew<L> {
         actor: Actor,
         command: Command,
     ) -> Result<Vec<Reply>, AllocError>
-        ensures asked { IfOk result (λ answers. Asked L.opening.watermarks actor command self.old.workers.items self.new.workers.items answers.items) }
+        ensures asked { IfOk result (λ answers. Asked L.opening actor command self.old.workers.items self.new.workers.items answers.items) }
         ensures counted { OnOk result (Counts roll.old.given self.old.workers.items roll.new.given self.new.workers.items) }
     {
         let place = self.place(rt, alloc, live, roll, actor)?;

@@ -163,7 +163,7 @@ fn set_up_one<L: Opened, D: SharedDevice, R: Wait, O: Write>(
     notes: &mut Notes,
     out: &mut O,
 ) -> Result<(), Fault>
-    ensures whole { OnOk result (SetsUp L.opening.watermarks ((actor, command) ∷ []) crew.old.workers.items crew.new.workers.items (O.contents out.old) (O.contents out.new)) }
+    ensures whole { OnOk result (SetsUp L.opening ((actor, command) ∷ []) crew.old.workers.items crew.new.workers.items (O.contents out.old) (O.contents out.new)) }
     ensures counted { OnOk result (Counts roll.old.given crew.old.workers.items roll.new.given crew.new.workers.items) }
     ensures why { IfErr result IsRunFault }
 {
@@ -191,7 +191,7 @@ fn set_up<L: Opened, D: SharedDevice, R: Wait, O: Write>(
     notes: &mut Notes,
     out: &mut O,
 ) -> Result<(), Fault>
-    ensures whole { OnOk result (SetsUp L.opening.watermarks setup.items crew.old.workers.items crew.new.workers.items (O.contents out.old) (O.contents out.new)) }
+    ensures whole { OnOk result (SetsUp L.opening setup.items crew.old.workers.items crew.new.workers.items (O.contents out.old) (O.contents out.new)) }
     ensures counted { OnOk result (Counts roll.old.given crew.old.workers.items roll.new.given crew.new.workers.items) }
     ensures why { IfErr result IsRunFault }
 {
@@ -287,7 +287,7 @@ fn work_all<L: Opened + Send + Sync, D: SharedDevice + Sync, R: Threads + Wait +
 ) -> Result<Vec<Pass<L>>, Fault>
     requires rows { IsStrictlyIncreasing (numbers_of (shown_rows work.items)) }
     requires fresh { roll.old.given ≡ 0 }
-    ensures whole { IfOk result (λ passes. Ran L.opening.watermarks setup.items (shown_rows work.items) passes.items (O.contents out.old) (O.contents out.new)) }
+    ensures whole { IfOk result (λ passes. Ran L.opening setup.items (shown_rows work.items) passes.items (O.contents out.old) (O.contents out.new)) }
     ensures handed_in { IfOk result (λ passes. AreHandedIn roll.new.given passes.items) }
     ensures why { IfErr result IsRunFault }
 {

@@ -3,9 +3,9 @@ use Rattle.std.proofs.Common.{ℕ, ap}
 use Rattle.machine.specs.Pages.{Residence, block_at}
 use Rattle.machine.specs.Legal.{Legal}
 use Rattle.machine.specs.Call.{Past}
-use Rattle.book.specs.declared.event.Reply.{Reply}
-use Rattle.book.specs.declared.event.Reply.TheVariants as reply
-use Rattle.book.specs.Replies.{HandsOut}
+use Rattle.book_events.specs.declared.event.Reply.{Reply}
+use Rattle.book_events.specs.declared.event.Reply.TheVariants as reply
+use Rattle.book_events.specs.Replies.{HandsOut}
 use Rattle.legal.proofs.SoundLemmas.{block_below}
 use Rattle.turns.specs.Tickets.{blocks_in, OwnReply}
 

@@ -28,16 +28,17 @@ use Rattle.machine.specs.declared.record.OomGroup.{OomGroup}
 use Rattle.machine.specs.declared.control.ControlFile.{ControlFile}
 use Rattle.machine.specs.declared.control.ControlFile.TheVariants as file
 use Rattle.machine.specs.Slots.{at}
+use Rattle.machine.specs.State.{Opening}
 use Rattle.machine.specs.Tree.{Node, find_group}
-use Rattle.machine.specs.Control.{file_named, has_file, amount_of, flag_of, text_of}
+use Rattle.machine.specs.Control.{file_named, has_file, amount_of, flag_written, text_of}
 use Rattle.block_store.specs.declared.device.Fault.{Fault}
 use Rattle.block_store.specs.Device.{Disk, ReadsBlock, WritesBlock}
 use Rattle.pages.specs.Tickets.{TicketOf}
-use Rattle.book.specs.declared.event.Event.{Event}
-use Rattle.book.specs.declared.event.Event.TheVariants as event
-use Rattle.book.specs.declared.event.Reply.{Reply}
-use Rattle.book.specs.declared.event.Reply.TheVariants as reply
-use Rattle.book.specs.Replies.{Replies, IsAccessReply, IsReliefReply, IsReclaimReply, IsOkReply, IsTaskReply, IsShownReply, IsInReply, IsOutReply}
+use Rattle.book_events.specs.declared.event.Event.{Event}
+use Rattle.book_events.specs.declared.event.Event.TheVariants as event
+use Rattle.book_events.specs.declared.event.Reply.{Reply}
+use Rattle.book_events.specs.declared.event.Reply.TheVariants as reply
+use Rattle.book_events.specs.Replies.{Replies, IsAccessReply, IsReliefReply, IsReclaimReply, IsOkReply, IsTaskReply, IsShownReply, IsInReply, IsOutReply}
 use Rattle.turns.specs.declared.turn.Access.{Access}
 use Rattle.turns.specs.declared.turn.Resume.{Resume}
 use Rattle.turns.specs.declared.turn.Resume.TheVariants as resume
@@ -344,15 +345,15 @@ reclaims g amount.Max = Err Invalid
 reclaims g (amount.Pages n) = Ok (stage.Reclaim (record { 0 = g }) n)
 
 -- the mode is judged before the amount
-abbrev pub writes_file : ℕ → List ℕ → ControlFile → Judged
-writes_file g text file.Current = Err Invalid
-writes_file g text file.Events = Err Invalid
-writes_file g text file.EventsLocal = Err Invalid
-writes_file g text file.Stat = Err Invalid
-writes_file g text file.Max = with_amount (amount_of text) (λ max. Ok (stage.SetMax (record { 0 = g }) max))
-writes_file g text (file.Guard guard) = with_amount (amount_of text) (λ amount. Ok (stage.SetGuard (record { 0 = g }) guard amount))
-writes_file g text file.OomGroup = with_flag (flag_of text) (λ flag. Ok (stage.SetOomGroup (record { 0 = g }) flag))
-writes_file g text file.Reclaim = with_amount (amount_of text) (reclaims g)
+abbrev pub writes_file : Opening → ℕ → List ℕ → ControlFile → Judged
+writes_file opening g text file.Current = Err Invalid
+writes_file opening g text file.Events = Err Invalid
+writes_file opening g text file.EventsLocal = Err Invalid
+writes_file opening g text file.Stat = Err Invalid
+writes_file opening g text file.Max = with_amount (amount_of text) (λ max. Ok (stage.SetMax (record { 0 = g }) max))
+writes_file opening g text (file.Guard guard) = with_amount (amount_of text) (λ amount. Ok (stage.SetGuard (record { 0 = g }) guard amount))
+writes_file opening g text file.OomGroup = with_flag (flag_written opening.placement text) (λ flag. Ok (stage.SetOomGroup (record { 0 = g }) flag))
+writes_file opening g text file.Reclaim = with_amount (amount_of text) (reclaims g)
 
 -- a command of a task; one that is none of a task's is Invalid
 abbrev pub task_judged : ℕ → Command → Judged
@@ -373,19 +374,19 @@ shell_paths (command.Protection guard target path) = target ∷ path ∷ []
 shell_paths others = []
 
 -- and what becomes of it, given what was found for them
-abbrev pub shell_judged : Command → List (Option ℕ) → Judged
-shell_judged (command.Access place op) found = Err Invalid
-shell_judged (command.Fork child) found = Err Invalid
-shell_judged (command.Free page) found = Err Invalid
-shell_judged command.Exit found = Err Invalid
-shell_judged command.Daemon found = Err Invalid
-shell_judged (command.Group path) found = Ok (stage.Mkdir path)
-shell_judged (command.Rmdir path) found = with_group (at found 0) (λ g. Ok (stage.Rmdir (record { 0 = g })))
-shell_judged (command.Task t path) found = with_group (at found 0) (λ g. Ok (stage.Spawn (record { 0 = t }) (record { 0 = g })))
-shell_judged (command.Attach t path) found = with_group (at found 0) (λ g. Ok (stage.Attach (record { 0 = t }) (record { 0 = g })))
-shell_judged (command.Set path name text) found = with_group (at found 0) (λ g. with_file g (file_named name) (writes_file g text))
-shell_judged (command.Cat path name) found = with_group (at found 0) (λ g. with_file g (file_named name) (reads_file g))
-shell_judged (command.Protection guard target path) found =
+abbrev pub shell_judged : Opening → Command → List (Option ℕ) → Judged
+shell_judged opening (command.Access place op) found = Err Invalid
+shell_judged opening (command.Fork child) found = Err Invalid
+shell_judged opening (command.Free page) found = Err Invalid
+shell_judged opening command.Exit found = Err Invalid
+shell_judged opening command.Daemon found = Err Invalid
+shell_judged opening (command.Group path) found = Ok (stage.Mkdir path)
+shell_judged opening (command.Rmdir path) found = with_group (at found 0) (λ g. Ok (stage.Rmdir (record { 0 = g })))
+shell_judged opening (command.Task t path) found = with_group (at found 0) (λ g. Ok (stage.Spawn (record { 0 = t }) (record { 0 = g })))
+shell_judged opening (command.Attach t path) found = with_group (at found 0) (λ g. Ok (stage.Attach (record { 0 = t }) (record { 0 = g })))
+shell_judged opening (command.Set path name text) found = with_group (at found 0) (λ g. with_file g (file_named name) (writes_file opening g text))
+shell_judged opening (command.Cat path name) found = with_group (at found 0) (λ g. with_file g (file_named name) (reads_file g))
+shell_judged opening (command.Protection guard target path) found =
     with_group (at found 0) (λ t. with_group (at found 1) (λ g. Ok (stage.Show (query.Protection guard (record { 0 = t }) (record { 0 = g })))))
 
 abbrev pub daemon_judged : Command → Judged
@@ -400,15 +401,15 @@ paths_of actor.Control what = shell_paths what
 paths_of actor.Daemon what = []
 
 -- what becomes of it, given what was found for each of them; one that is none of its actor's is Invalid
-abbrev pub judged_with : Actor → Command → List (Option ℕ) → Judged
-judged_with (actor.Task t) what found = task_judged t what
-judged_with actor.Shell what found = shell_judged what found
-judged_with actor.Control what found = shell_judged what found
-judged_with actor.Daemon what found = daemon_judged what
+abbrev pub judged_with : Opening → Actor → Command → List (Option ℕ) → Judged
+judged_with opening (actor.Task t) what found = task_judged t what
+judged_with opening actor.Shell what found = shell_judged opening what found
+judged_with opening actor.Control what found = shell_judged opening what found
+judged_with opening actor.Daemon what found = daemon_judged what
 
 -- what becomes of a command in its first turn: all its paths are looked up, and then it is judged
-abbrev pub judged : List Node → Actor → Command → Judged
-judged tree who what = judged_with who what (map (find_group tree) (paths_of who what))
+abbrev pub judged : Opening → List Node → Actor → Command → Judged
+judged opening tree who what = judged_with opening who what (map (find_group tree) (paths_of who what))
 
 -- ---- what is told
 

@@ -2,12 +2,12 @@
 //! reply. It knows no book, no device and no loop, so all callers that run commands use this one.
 
 ghost use Rattle.std.specs.Prelude.{◌≡◌, ℕ, true, false, IfOk, OnErr};
-ghost use Rattle.book.specs.Replies.{IsAccessReply, IsReliefReply, IsReclaimReply, IsOkReply, IsTaskReply, IsShownReply, IsInReply, IsOutReply};
+ghost use Rattle.book_events.specs.Replies.{IsAccessReply, IsReliefReply, IsReclaimReply, IsOkReply, IsTaskReply, IsShownReply, IsInReply, IsOutReply};
 ghost use Rattle.turns.specs.Turns.{access_event, wants_pages, wants_balance, wants_watch, wants, ends_with, ends_refused, byte_answer, resumes_at, arrived, Tried, MadeRoom, MaxSet, Lowered, Reclaimed, Balanced, Made, TaskDid, WasShown, Closed, Told, WantsText, Awaits, AwaitsAll};
 ghost use Rattle.turns.specs.Tickets.{holds, holds_want, holds_after, gives_ticket, OwnReply, OwnStage, OwnWant, OwnTransition, IsHanded, IsSpendableReply};
 
 use crate::turn::{Access, Kill, Pending, Resume, Stage, Transition, Want};
-use book::{Event, InTicket, OutTicket, Reply};
+use book_events::{Event, InTicket, OutTicket, Reply};
 use control_files::show_text;
 use machine::command::{Answer, Word};
 use machine::config::Watermarks;

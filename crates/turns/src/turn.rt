@@ -3,7 +3,7 @@
 ghost use Rattle.std.specs.Prelude.{◌≡◌};
 ghost use Rattle.turns.specs.Turns.{is_of_file, kill_answer, marks_by, marks_hit};
 
-use book::{Event, InTicket, OutTicket};
+use book_events::{Event, InTicket, OutTicket};
 use machine::amount::Amount;
 use machine::command::Answer;
 use machine::config::Placement;

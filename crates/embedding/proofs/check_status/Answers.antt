@@ -1,6 +1,6 @@
 use Rattle.std.proofs.Common.{codes}
 use Rattle.printer.specs.Asked.{plain_as}
-use Rattle.embedding.proofs.StatusLemmas.{bad_unsound}
+use Rattle.call_buffers.proofs.StatusLemmas.{bad_unsound}
 use Rattle.embedding.proofs.check_status.Goals as goal
 
 pub returns-in-Err-clause-bad : goal.returns-in-Err-clause-bad

@@ -1,6 +1,6 @@
 use Rattle.std.proofs.Common.{codes}
-use Rattle.embedding.specs.Calls.{options_of}
-use Rattle.embedding.proofs.StatusLemmas.{bad_unsound}
+use Rattle.embedding.specs.Asked.{options_of}
+use Rattle.call_buffers.proofs.StatusLemmas.{bad_unsound}
 use Rattle.embedding.proofs.schedule_status.Goals as goal
 
 pub returns-in-Err-clause-bad : goal.returns-in-Err-clause-bad

@@ -1,6 +1,6 @@
 use Rattle.std.proofs.Common.{◌≡◌, Bool, List, length, ap, ◌∙◌, arith}
 use Rattle.lru_gen.specs.Gens.{GensOf, gens_of}
-use Rattle.machine.proofs.AgingLemmas.{length-cleared}
+use Rattle.page_lists.proofs.AgingLemmas.{length-cleared}
 use Rattle.aging.proofs.AgeLemmas.{Aged, aged-at}
 use Rattle.aging.proofs.promotion.age.Goals as goal
 use Rattle.aging.proofs.promotion.age.Goals.{After-promote-2}

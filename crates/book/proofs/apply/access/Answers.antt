@@ -1,6 +1,6 @@
 use Rattle.std.proofs.Common.{ℕ, None, refl, subst}
 use Rattle.page_state.specs.Changes.{MakesPage}
-use Rattle.book.specs.declared.event.Reply.TheVariants as given
+use Rattle.book_events.specs.declared.event.Reply.TheVariants as given
 use Rattle.book.proofs.StepLemmas.{makes_step-unmapped, makes_step-busy}
 use Rattle.book.proofs.JudgeLemmas.{room-for, source-readable, source-live, source-room}
 use Rattle.book.proofs.CarryLemmas.{carries-access, carries-made, carries-copied, carries-fetch}

@@ -1,5 +1,5 @@
 use Rattle.std.proofs.Common.{refl}
-use Rattle.book.specs.declared.event.Reply.TheVariants as given
+use Rattle.book_events.specs.declared.event.Reply.TheVariants as given
 use Rattle.book.proofs.StepLemmas.{makes_step-mkdir, makes_step-show}
 use Rattle.book.proofs.TouchLemmas.{makes_step-spawn, makes_step-fork, makes_step-attach, makes_step-free}
 use Rattle.book.proofs.EndLemmas.{makes_step-exit}

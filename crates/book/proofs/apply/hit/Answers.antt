@@ -1,7 +1,7 @@
 use Rattle.std.proofs.Common.{◌∙◌, ℕ, List, Option, Some, ap, sym, subst}
 use Rattle.pages.specs.PagesOf.{byte_in}
 use Rattle.page_state.specs.Changes.{WritesByte}
-use Rattle.book.specs.declared.event.Reply.TheVariants as given
+use Rattle.book_events.specs.declared.event.Reply.TheVariants as given
 use Rattle.book.specs.declared.decision.Meeting.TheVariants as meeting
 use Rattle.book.specs.Decisions.{Carries}
 use Rattle.book.specs.declared.decision.Decision.TheVariants as decision

@@ -1,6 +1,6 @@
 use Rattle.std.proofs.Common.{◌≡◌, ap, ◌∙◌, subst, arith}
 use Rattle.machine.specs.State.{Opening}
-use Rattle.book.specs.Events.{event_of, reply_of}
+use Rattle.book_events.specs.Events.{event_of, reply_of}
 use Rattle.turns.specs.Tickets.{blocks_in, OwnReply}
 use Rattle.legal.proofs.OpeningLemmas.{called_opening}
 use Rattle.book.specs.Passes.{PassOf, call_of, keeping}

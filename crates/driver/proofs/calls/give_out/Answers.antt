@@ -1,6 +1,6 @@
 use Rattle.std.proofs.Common.{refl}
-use Rattle.book.specs.declared.event.Event.TheVariants.{LeaveFailed}
-use Rattle.book.specs.Events.{event_of, reply_of}
+use Rattle.book_events.specs.declared.event.Event.TheVariants.{LeaveFailed}
+use Rattle.book_events.specs.Events.{event_of, reply_of}
 use Rattle.driver.proofs.TracedLemmas.{called-given_up}
 use Rattle.driver.proofs.calls.give_out.Goals as goal
 

@@ -5,7 +5,7 @@ use Rattle.machine.specs.Aging.{Seen, aged}
 use Rattle.machine.specs.Eviction.{old_pages, AgesToOld}
 use Rattle.lru_gen.specs.Gens.{GensOf, gens_of}
 use Rattle.aging.specs.Groups.{seen_at}
-use Rattle.machine.proofs.AgingLemmas.{length-cleared}
+use Rattle.page_lists.proofs.AgingLemmas.{length-cleared}
 use Rattle.aging.proofs.GroupLemmas.{change, only-same, only-then, only-group}
 use Rattle.eviction.proofs.TurnLemmas.{no-first}
 use Rattle.eviction.proofs.AgeLemmas.{Holds, holds-first, holds-aged, holds-settled, old-there, at-once, once-more, searched, looks-aged, aged-seen}

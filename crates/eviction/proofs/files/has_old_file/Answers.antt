@@ -3,7 +3,7 @@ use Rattle.machine.specs.declared.id.PageId.{PageId}
 use Rattle.machine.specs.declared.record.Kind.TheVariants.{File}
 use Rattle.machine.specs.Generations.{Listed, has_page, AreDistinct}
 use Rattle.machine.specs.Eviction.{is_old, old_of}
-use Rattle.machine.proofs.ListedLemmas.{has-filter, distinct-filter}
+use Rattle.page_lists.proofs.ListedLemmas.{has-filter, distinct-filter}
 use Rattle.lru_gen.specs.Gens.{GensOf, gens_of, IsSound}
 use Rattle.lru_gen.proofs.KindLemmas.{sound_distinct, row_listed}
 use Rattle.lru_gen.proofs.SearchLemmas.{first_is_there, after_is_there}

@@ -8,4 +8,5 @@ invariant_of-self c =
     let s = c.self.inside in
     let listed = rw (← c.self.view_is) at c.requires.listed in
     let found = listed-where s.gens.groups c.args.page.0 listed in
-    ap length c.clear.ensures ∙ length-set s.marks c.args.page.0 false ∙ c.self.invariant ∙ sym (ap (λ (g : GensOf). g.pages) (c.isolate.ensures.groups found.0 found.1))
+    let pages = sym (ap (λ (g : GensOf). g.pages) (c.isolate.ensures.groups found.0 found.1)) in
+    (ap length c.clear.ensures ∙ length-set s.marks c.args.page.0 false ∙ c.self.invariant.0 ∙ pages, ap length c.clear-2.ensures ∙ length-set s.hits c.args.page.0 0 ∙ c.self.invariant.1 ∙ pages)

@@ -11,5 +11,5 @@ returns-clause-picked c =
     let s = c.self.inside in
     let g = c.args.group.0 in
     rw (← c.self.view_is)
-    (searched-picks s.gens c.pick.new.gens s.marks c.pick.new.marks g c.pick.ensures.only c.args.swap_free _
+    (searched-picks s.gens c.pick.new.gens s.marks c.pick.new.marks s.hits g c.pick.ensures.only c.args.swap_free _
     (subst (λ (found : Option Pick). Picks c.args.swap_free (seen_at g s.gens s.marks) (option_map (λ (p : Pick). p.page.0) found) (seen_at g c.pick.new.gens c.pick.new.marks)) c.in-Some.is c.pick.ensures.picks))

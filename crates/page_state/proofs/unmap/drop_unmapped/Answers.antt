@@ -3,7 +3,7 @@ use Rattle.machine.specs.Pages.{page_at}
 use Rattle.machine.specs.Tasks.{mappers}
 use Rattle.page_state.proofs.MappedLemmas.{still-mapped}
 use Rattle.machine.specs.Lists.{Youngest}
-use Rattle.machine.proofs.HeldLemmas.{goes-still}
+use Rattle.page_lists.proofs.HeldLemmas.{goes-still}
 use Rattle.page_state.proofs.DropLemmas.{still-unsettled}
 use Rattle.page_state.proofs.UnmapLemmas.{kept, dropped, settled-there, settled-rests}
 use Rattle.page_state.proofs.unmap.drop_unmapped.Goals.{else-mappers-eq0-via-then-mappers-eq0+else-is_settled_memory, else-mappers-eq0-via-else-mappers-eq0}

@@ -1,5 +1,5 @@
 use Rattle.std.proofs.Common.{◌≡◌, ap, ◌∙◌, arith}
-use Rattle.book.specs.Events.{event_of, reply_of}
+use Rattle.book_events.specs.Events.{event_of, reply_of}
 use Rattle.book.specs.Passes.{PassOf, call_of, keeping}
 use Rattle.book.proofs.PassLemmas.{keeping_call-kept}
 use Rattle.driver.proofs.HitLemmas.{own-leaves}

@@ -10,12 +10,12 @@ returns-in-Ok-all_passes-clause-whole g c =
     let parts = c.in-Ok-split.ensures in
     let front = parts.0 ∙ ap (λ (n : ℕ). take n ready) c.len-rows.ensures in
     let back = parts.1 ∙ ap (λ (n : ℕ). drop n ready) c.len-rows.ensures in
-    ran g.L.Opened.opening.watermarks c.args.setup.items _ hired ready c.in-Ok-split.workers.items c.in-Ok-split.others.items c.work_together-workers.result.0.items _ _ _ c.in-Ok.ensures.hired c.in_ok-set_up.ensures.whole front back
+    ran g.L.Opened.opening c.args.setup.items _ hired ready c.in-Ok-split.workers.items c.in-Ok-split.others.items c.work_together-workers.result.0.items _ _ _ c.in-Ok.ensures.hired c.in_ok-set_up.ensures.whole front back
     c.work_together-workers.ensures.workers c.work_together-workers.ensures.count (rw c.deref.ensures.value at c.in_ok-print_rows.ensures.whole)
     c.in-Ok-new_pass.daemon c.work_together-workers.result.1 _ c.in-Ok-new_pass.ensures.exchanges c.work_together-workers.ensures.daemon c.in-Ok-all_passes.ensures
 
 pub split-requires : goal.split-requires
-split-requires g c = set_up-more g.L.Opened.opening.watermarks c.args.setup.items c.in-Ok.crew.workers.items c.set_up.new.crew.workers.items _ _ c.len-rows.result c.in_ok-set_up.ensures.whole c.len-rows.ensures
+split-requires g c = set_up-more g.L.Opened.opening c.args.setup.items c.in-Ok.crew.workers.items c.set_up.new.crew.workers.items _ _ c.len-rows.result c.in_ok-set_up.ensures.whole c.len-rows.ensures
 
 pub returns-in-Ok-all_passes-clause-handed_in : goal.returns-in-Ok-all_passes-clause-handed_in
 returns-in-Ok-all_passes-clause-handed_in g c =
@@ -24,6 +24,6 @@ returns-in-Ok-all_passes-clause-handed_in g c =
     let parts = c.in-Ok-split.ensures in
     let front = parts.0 ∙ ap (λ (n : ℕ). take n ready) c.len-rows.ensures in
     let back = parts.1 ∙ ap (λ (n : ℕ). drop n ready) c.len-rows.ensures in
-    handed_in g.L.Opened.opening.watermarks c.args.setup.items _ hired ready c.in-Ok-split.workers.items c.in-Ok-split.others.items c.work_together-workers.result.0.items _ _ _ c.in-Ok.ensures.hired c.in_ok-set_up.ensures.whole front back
+    handed_in g.L.Opened.opening c.args.setup.items _ hired ready c.in-Ok-split.workers.items c.in-Ok-split.others.items c.work_together-workers.result.0.items _ _ _ c.in-Ok.ensures.hired c.in_ok-set_up.ensures.whole front back
     c.work_together-workers.ensures.workers c.work_together-workers.ensures.count (rw c.deref.ensures.value at c.in_ok-print_rows.ensures.whole)
     c.in-Ok-new_pass.daemon c.work_together-workers.result.1 _ _ _ _ _ c.in-Ok-new_pass.ensures.kept c.work_together-workers.ensures.rest c.in-Ok-all_passes.ensures c.requires.fresh c.in-Ok.ensures.counted c.in-Ok-new_pass.ensures.counted c.in_ok-set_up.ensures.counted

@@ -1,6 +1,6 @@
 use Rattle.std.proofs.Common.{refl, sym, subst}
 use Rattle.machine.specs.Control.{text_of}
-use Rattle.book.specs.declared.event.Reply.{Reply}
+use Rattle.book_events.specs.declared.event.Reply.{Reply}
 use Rattle.turns.specs.declared.turn.Pending.TheVariants.{Show}
 use Rattle.turns.specs.Turns.{WantsText}
 use Rattle.turns.proofs.automaton.shown.Goals as goal

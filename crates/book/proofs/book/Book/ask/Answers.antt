@@ -4,11 +4,11 @@ use Rattle.machine.specs.declared.reply.Reply.{Reply}
 use Rattle.book.specs.declared.book.Book.TheInside.{Inside}
 use Rattle.machine.specs.History.{ticket_given, at_first, IsRight}
 use Rattle.machine.specs.Call.{Called}
-use Rattle.book.specs.declared.event.Reply.{Reply as Given}
+use Rattle.book_events.specs.declared.event.Reply.{Reply as Given}
 use Rattle.book.specs.Books.{past_of}
-use Rattle.book.specs.Events.{reply_of}
+use Rattle.book_events.specs.Events.{reply_of}
 use Rattle.book.specs.MakesStep.{RepliesTo, noted}
-use Rattle.book.specs.Replies.{HandsOut}
+use Rattle.book_events.specs.Replies.{HandsOut}
 use Rattle.book.specs.Decisions.{AnswersTo, IsDecided}
 use Rattle.book.proofs.HistoryLemmas.{read_on, flights_within}
 use Rattle.book.proofs.TicketLemmas.{gives_more, reply_of-stamped, replies-stamped}

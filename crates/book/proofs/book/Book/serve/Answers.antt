@@ -4,7 +4,7 @@ use Rattle.machine.specs.declared.reply.Reply.{Reply}
 use Rattle.book.specs.declared.kept.Asked.{Asked}
 use Rattle.book.specs.declared.kept.Asked.TheVariants.{Whole}
 use Rattle.book.specs.declared.kept.Kept.TheVariants.{Call}
-use Rattle.book.specs.Events.{reply_of}
+use Rattle.book_events.specs.Events.{reply_of}
 use Rattle.book.specs.Passes.{PassOf, call_of, keeping, is_current}
 use Rattle.book.proofs.PassLemmas.{asked-whole, asked-leaves, called-current, current-on}
 use Rattle.book.proofs.book.Book.serve.Goals as goal

@@ -6,7 +6,7 @@ use Rattle.machine.specs.Call.{Past}
 use Rattle.machine.specs.declared.event.Event.{Event}
 use Rattle.machine.specs.declared.reply.Reply.TheVariants as reply
 use Rattle.book.specs.declared.book.Book.TheInside.{Inside}
-use Rattle.book.specs.Events.{ended, ended_with}
+use Rattle.book_events.specs.Events.{ended, ended_with}
 use Rattle.book.proofs.FlightLemmas.{flying-stands}
 use Rattle.book.proofs.MoveLemmas.{filed-single, makes_step-settled_in}
 use Rattle.book.proofs.CallLemmas.{called-stranger, ended-known, ended-none, ended-free, ended-leaves, ends, has_room, few_of, Appends, called_more, book_more}

@@ -44,7 +44,7 @@ returns-in_ok-first_turn-in-Begun-clause-turn g c =
     let old : World = world c.args.self.now (g.D.BlockDevice.disk c.args.device.now) in
     let new : World = world c.first_turn.new.self (g.D.BlockDevice.disk c.first_turn.new.device) in
     turn_begun old new c.args.actor c.in-Begun.command c.in_ok-first_turn-in-Begun.field-0 (sym c.in-Begun.ensures.was)
-    (judged_taken old c.take.new.self new c.args.actor (judged old.past.state.tree c.args.actor c.in-Begun.command) c.in_ok-first_turn-in-Begun.field-0 c.take.ensures.now c.in_ok-first_turn-in-Begun.ensures.turn)
+    (judged_taken old c.take.new.self new c.args.actor (judged old.past.state.opening old.past.state.tree c.args.actor c.in-Begun.command) c.in_ok-first_turn-in-Begun.field-0 c.take.ensures.now c.in_ok-first_turn-in-Begun.ensures.turn)
 
 pub returns-in_ok-turn_stage-in-Does-clause-turn : goal.returns-in_ok-turn_stage-in-Does-clause-turn
 returns-in_ok-turn_stage-in-Does-clause-turn g c =

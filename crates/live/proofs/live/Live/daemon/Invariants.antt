@@ -9,7 +9,7 @@ abbrev pub invariant-loop-run : goal.invariant-loop-run
 invariant-loop-run g l = record {
   can : (goal.iterator-loop-run g).can_next l._run-iterator;
   finite : (goal.iterator-loop-run g).is_finite l._run-iterator;
-  repeated : Repeated g.L.Opened.opening.watermarks actor.Daemon command.Daemon l.fn.pass.exchanges l.pass.exchanges;
+  repeated : Repeated g.L.Opened.opening actor.Daemon command.Daemon l.fn.pass.exchanges l.pass.exchanges;
   caller : l.pass.caller ≡ l.fn.pass.caller;
   share : Carries l.fn.pass.kept 0 l.pass.kept 0;
 }

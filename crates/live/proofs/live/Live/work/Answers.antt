@@ -14,7 +14,7 @@ loop-at-preserved g c =
     let here = c.index-commands-at in
     let more = worked_more _ _ _ _ _ _ _ _ _ c.loop-at.invariant.worked c.one.ensures.did in
     record {
-      worked = subst (λ (cs : List Command). Worked g.L.Opened.opening.watermarks c.args.actor cs c.args.pass.now.exchanges c.one.new.pass.exchanges c.one.new.answers.items) (sym (taken all c.loop-at.at here.result c.loop-at-test.true here.is)) more;
+      worked = subst (λ (cs : List Command). Worked g.L.Opened.opening c.args.actor cs c.args.pass.now.exchanges c.one.new.pass.exchanges c.one.new.answers.items) (sym (taken all c.loop-at.at here.result c.loop-at-test.true here.is)) more;
       room = omega (arith, c.one.ensures.left);
       share = carries-both _ _ _ _ _ _ c.loop-at.invariant.share c.one.ensures.share;
       caller = search rules;

@@ -1,5 +1,5 @@
 use Rattle.std.proofs.Common.{rules, ◌≡◌, ◌∙◌, ◌<◌, ◌++◌, ◌∷◌, [], ℕ, List, map, arith, sym, ap, subst}
-use Rattle.book.specs.Events.{event_of, reply_of}
+use Rattle.book_events.specs.Events.{event_of, reply_of}
 use Rattle.book.specs.Passes.{PassOf, call_of, keeping}
 use Rattle.live.specs.declared.history.Exchange.{Exchange}
 use Rattle.live.specs.declared.history.Exchange.TheVariants.{Call}

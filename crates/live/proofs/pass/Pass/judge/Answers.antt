@@ -26,8 +26,8 @@ returns-clause-looked g c =
     let more = new-looked known old.kept c.judge.new.pass.kept tree paths c.self.invariant.2 kept in
     let after = seated-so c.note.new.front.me c.judge.new.pass.caller.worker _ c.note.ensures.front.1 ∙ ap (λ (l : List Exchange). known ++ l) more in
     let same : pass_of old known ≡ c.args.self.now = search rules in
-    subst (λ (p : Shown). Looked c.args.actor c.args.command.now p.exchanges (exchanges_in c.note.new.front.me.0.rows) c.in_ok-judged.judged) same
-    (looked tree c.args.actor c.args.command.now known (exchanges_in c.note.new.front.me.0.rows) c.in_ok-judged.judged after c.in_ok-judged.ensures.judged)
+    subst (λ (p : Shown). Looked c.args.book.now.state.opening c.args.actor c.args.command.now p.exchanges (exchanges_in c.note.new.front.me.0.rows) c.in_ok-judged.judged) same
+    (looked c.args.book.now.state.opening tree c.args.actor c.args.command.now known (exchanges_in c.note.new.front.me.0.rows) c.in_ok-judged.judged after c.in_ok-judged.ensures.judged)
 
 pub returns-clause-share : goal.returns-clause-share
 returns-clause-share g c =

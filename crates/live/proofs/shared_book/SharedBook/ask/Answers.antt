@@ -1,7 +1,7 @@
 use Rattle.std.proofs.Common.{rules, ◌≡◌, ◌∙◌, ◌≤◌, ℕ, vec_capacity, sym, subst}
 use Rattle.machine.specs.State.{Opening}
 use Rattle.machine.specs.Legal.{Legal}
-use Rattle.book.specs.Events.{event_of, reply_of}
+use Rattle.book_events.specs.Events.{event_of, reply_of}
 use Rattle.turns.specs.Tickets.{blocks_in, OwnReply}
 use Rattle.live.specs.Passes.{book_pass}
 use Rattle.turns.proofs.TicketLemmas.{gives_own}

@@ -1,5 +1,5 @@
 use Rattle.std.proofs.Common.{[], ◌∷◌}
-use Rattle.book.specs.Events.{event_of}
+use Rattle.book_events.specs.Events.{event_of}
 use Rattle.live.proofs.shared_book.SharedBook.ask.Given as goal
 
 -- the history is told of just the event that is asked

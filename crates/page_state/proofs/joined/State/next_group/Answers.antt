@@ -4,7 +4,7 @@ use Rattle.machine.specs.Tree.{is_live, under}
 use Rattle.machine.specs.Generations.{Gens}
 use Rattle.group_tree.proofs.LineageLemmas.{live-within}
 use Rattle.machine.specs.State.{is_swap_free}
-use Rattle.machine.specs.Order.{served_first, cursor_at}
+use Rattle.machine.specs.Order.{Cursor, served_first, cursor_at}
 use Rattle.page_state.specs.States.{StateOf}
 use Rattle.page_state.specs.Joined.{joined_of}
 use Rattle.reclaim.specs.declared.cursors.Served.{Served}
@@ -61,14 +61,14 @@ module _ (c : goal.After-next_group) where
       (subst (λ (gs : List Gens). P (joined_of c.self.inside).tables.opening.recursive gs c.marks.result.now c.has_swap-swap_free.result) c.gens.ensures.groups
       (subst (λ (r : Bool). P r c.gens.result.now.groups c.marks.result.now c.has_swap-swap_free.result) recursive h)))
 
-  abbrev last : Option ℕ
+  abbrev last : Cursor
   last = cursor_at c.self.inside.cursors.cursors c.args.target.0
 
   abbrev IsFound : Served → Type 0
-  IsFound = Found c.self.inside c.self.invariant c.groups_form_a_tree.ensures.earlier_parents c.args.target.0 c.heeds_age-heeds_age.result last
+  IsFound = Found c.self.inside c.self.invariant c.groups_form_a_tree.ensures.earlier_parents c.args.target.0 c.heeds_age-heeds_age.result c.takes_parts-takes_parts.result last
 
   abbrev pass : Bool → List Gens → List Bool → Bool → Served → Type 0
-  pass r gs ms b s = (served_first c.heeds_age-heeds_age.result c.self.inside.tree (listed_old r gs ms b s.low_reclaim) (listed r gs b s.low_reclaim) c.args.target.0 last ≡ Some s.group.0) × (s.low_reclaim ≡ true → none_listed r gs b false) × (is_live c.self.inside.tree s.group.0 ≡ true) × (under c.self.inside.tree c.args.target.0 s.group.0 ≡ true) × (listed r gs b s.low_reclaim s.group.0 ≡ true)
+  pass r gs ms b s = (served_first c.heeds_age-heeds_age.result c.takes_parts-takes_parts.result c.self.inside.tree (listed_old r gs ms b s.low_reclaim) (listed r gs b s.low_reclaim) c.args.target.0 last ≡ Some s.group.0) × (s.low_reclaim ≡ true → none_listed r gs b false) × (is_live c.self.inside.tree s.group.0 ≡ true) × (under c.self.inside.tree c.args.target.0 s.group.0 ≡ true) × (listed r gs b s.low_reclaim s.group.0 ≡ true)
 
   passed : IfSome c.next_group.result (pass c.is_recursive-recursive.result c.gens.result.now.groups c.marks.result.now c.has_swap-swap_free.result)
   passed = in_some c.next_group.result c.next_group.ensures.group c.next_group.ensures.spared c.next_group.ensures.giver (λ s group spared giver. (group, spared, giver.live, giver.below, giver.gives))
@@ -87,8 +87,8 @@ module _ (c : goal.After-next_group) where
 
 pub returns-clause-next : goal.returns-clause-next
 returns-clause-next c =
-    rw (← c.self.view_is, ← c.heeds_age-heeds_age.ensures)
-    (with_it c.next_group.result (found c) (λ s is. turn-is c.self.inside c.self.invariant c.groups_form_a_tree.ensures.earlier_parents c.args.target.0 c.groups_form_a_tree.ensures (live c) c.heeds_age-heeds_age.result (last c) s is))
+    rw (← c.self.view_is, ← c.heeds_age-heeds_age.ensures, ← c.takes_parts-takes_parts.ensures)
+    (with_it c.next_group.result (found c) (λ s is. turn-is c.self.inside c.self.invariant c.groups_form_a_tree.ensures.earlier_parents c.args.target.0 c.groups_form_a_tree.ensures (live c) c.heeds_age-heeds_age.result c.takes_parts-takes_parts.result (last c) s is))
 
 pub returns-clause-live : goal.returns-clause-live
 returns-clause-live c = rw (← c.self.view_is) (with_it c.next_group.result (found c) (λ s is. is.live))
@@ -96,11 +96,11 @@ returns-clause-live c = rw (← c.self.view_is) (with_it c.next_group.result (fo
 pub returns-clause-low : goal.returns-clause-low
 returns-clause-low c =
     rw (← c.self.view_is)
-    (with_it c.next_group.result (found c) (λ s is. passes-low c.self.inside c.self.invariant c.groups_form_a_tree.ensures.earlier_parents c.args.target.0 c.groups_form_a_tree.ensures (live c) c.heeds_age-heeds_age.result (last c) s is))
+    (with_it c.next_group.result (found c) (λ s is. passes-low c.self.inside c.self.invariant c.groups_form_a_tree.ensures.earlier_parents c.args.target.0 c.groups_form_a_tree.ensures (live c) c.heeds_age-heeds_age.result c.takes_parts-takes_parts.result (last c) s is))
 
 pub returns-clause-takeable : goal.returns-clause-takeable
 returns-clause-takeable c =
     rw (← c.self.view_is)
     (some_or_none c.next_group.result _ (found c) (none c)
-    (λ s is. one-is c.self.inside c.self.invariant c.groups_form_a_tree.ensures.earlier_parents c.args.target.0 c.groups_form_a_tree.ensures (live c) c.heeds_age-heeds_age.result (last c) s is)
+    (λ s is. one-is c.self.inside c.self.invariant c.groups_form_a_tree.ensures.earlier_parents c.args.target.0 c.groups_form_a_tree.ensures (live c) c.heeds_age-heeds_age.result c.takes_parts-takes_parts.result (last c) s is)
     (none-is c.self.inside c.self.invariant c.groups_form_a_tree.ensures.earlier_parents c.args.target.0))

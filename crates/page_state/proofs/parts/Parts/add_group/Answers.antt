@@ -3,7 +3,7 @@ use Rattle.std.proofs.lemmas.List.{length-append}
 use Rattle.machine.specs.Generations.{new_gens}
 use Rattle.machine.specs.Lists.{with_group}
 use Rattle.pages.specs.PagesOf.{PagesOf}
-use Rattle.machine.proofs.HeldLemmas.{held-group}
+use Rattle.page_lists.proofs.HeldLemmas.{held-group}
 use Rattle.group_tree.specs.Lineages.{bare}
 use Rattle.held_pages.specs.Held.{HeldOf}
 use Rattle.page_state.specs.Owned.{PartsAgree}

@@ -1,4 +1,4 @@
-use Rattle.std.proofs.Common.{◌≡◌, ◌∙◌, ℕ, None, Some, refl, sym, ap, subst, arith}
+use Rattle.std.proofs.Common.{◌≡◌, ◌<◌, ◌∙◌, ℕ, length, None, Some, refl, sym, ap, subst, arith}
 use Rattle.machine.specs.Slots.{Changes, there_and}
 use Rattle.machine.specs.Pages.{page_at, is_held, is_in_transfer}
 use Rattle.machine.specs.Lists.{HeldLists, Youngest, GoesOn}
@@ -64,9 +64,13 @@ goes : (c : goal.After-add) (g f : ℕ) → page_at c.args.self.now.pages.pages 
     → Changes c.args.self.now.pages.pages c.make_page-page.new.pages.pages c.make_page-page.result.0 (Some (new_page g f)) → GoesOn Youngest c.args.self.now.pages.pages c.args.self.now.held.lists c.make_page-page.new.pages.pages c.add.new.self.lists
 goes c g f free own placed =
     let h = c.args.self.now in
+    let numbers = c.requires.agree.held_numbers in
+    let counts = c.are_generations.ensures.counts in
+    let is = c.make_page-page.ensures.within in
+    let within : c.make_page-page.result.0 < length h.held.lists.hits = omega (arith, numbers, counts, is) in
     subst (λ (held : HeldLists). GoesOn Youngest h.pages.pages h.held.lists c.make_page-page.new.pages.pages held)
     (ap (λ (x : ℕ). entered h.held.lists x Anon c.make_page-page.result.0 Youngest) own ∙ sym (ap (λ (held : HeldOf). held.lists) c.add.ensures))
-    (goes-in h.pages.pages h.held.lists c.requires.agree.held c.make_page-page.result.0 Youngest c.make_page-page.new.pages.pages None (memory_of g) f free refl placed)
+    (goes-in h.pages.pages h.held.lists c.requires.agree.held c.make_page-page.result.0 Youngest c.make_page-page.new.pages.pages None (memory_of g) f free refl placed within)
 
 pub returns-clause-agree : goal.returns-clause-agree
 returns-clause-agree c =

@@ -34,7 +34,7 @@ returns-clause-agree c =
         counted = counted-open c.in_ok-counters.counters pages.pages none c.in_ok-counters.ensures.usage;
       };
       few = omega (arith, frames, fits);
-      held = lists-open c.in_ok-held.held.lists pages.pages c.in_ok-held.ensures.groups _ c.in_ok-held.ensures.marks none;
+      held = lists-open c.in_ok-held.held.lists pages.pages c.in_ok-held.ensures.groups _ c.in_ok-held.ensures.marks c.in_ok-held.ensures.hits none;
       moving = listed-open is_in_transfer _ _ c.in_ok-moving.ensures.numbers none;
       moving_room = omega (arith, frames, moving_room);
       held_groups = ap length c.in_ok-held.ensures.groups ∙ sym (ap length c.in_ok-counters.ensures.tree);

@@ -1,4 +1,4 @@
-use Rattle.std.proofs.Common.{◌<◌, ◌∙◌, ℕ, Option, refl, sym, ap, subst, arith}
+use Rattle.std.proofs.Common.{◌<◌, ◌∙◌, ℕ, Option, length, refl, sym, ap, subst, arith}
 use Rattle.std.specs.Prelude.{IfSome}
 use Rattle.machine.specs.Pages.{Going, Page}
 use Rattle.frames.specs.Pool.{PoolOf}
@@ -14,6 +14,12 @@ pub end_transfer-kind-requires-clause-stands : goal.end_transfer-kind-requires-c
 end_transfer-kind-requires-clause-stands c =
     let w = c.requires.stands in
     (Out, w.0, w.1, w.2, w.3)
+
+within : (c : goal.After-relist) → c.args.page.0 < c.args.self.now.pages.numbers
+within c = let w = c.requires.stands in subst (λ (slot : Option Page). IfSome slot (λ page. c.args.page.0 < c.args.self.now.pages.numbers)) w.3 (c.are_numbered.ensures c.args.page.0)
+
+counted : (c : goal.After-relist) → c.args.page.0 < length c.args.self.now.held.lists.hits
+counted c = let numbers = c.requires.agree.held_numbers in let counts = c.are_generations.ensures.counts in let is = within c in omega (arith, numbers, counts, is)
 
 pub relist-requires : goal.relist-requires
 relist-requires c =
@@ -43,6 +49,7 @@ lands c label f b stood =
       blocks = settled.blocks;
       held = subst (λ (kind : Kind). JoinsAtEnd c.args.placement Out c.args.end c.args.self.now.held c.relist.new.held label.group kind c.args.page.0) own.1
           (subst (λ (x : ℕ). JoinsAtEnd c.args.placement Out c.args.end c.args.self.now.held c.relist.new.held x c.end_transfer-kind.result.1 c.args.page.0) own.0 c.relist.ensures.held);
+      counted = counted c;
       moving = c.relist.ensures.moving;
     }
 

@@ -1,0 +1,3 @@
+pub mod Spots
+pub mod Events
+pub mod Replies

@@ -1,2 +1,0 @@
-pub mod ExploringLemmas
-pub mod StatusLemmas

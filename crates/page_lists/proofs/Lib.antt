@@ -1,0 +1,10 @@
+pub mod ListedLemmas
+pub mod AgingLemmas
+pub mod HeldLemmas
+pub mod HeldChanges
+pub mod HandedLemmas
+pub mod MergeLemmas
+pub mod PicksLemmas
+pub mod CursorLemmas
+pub mod TakeableLemmas
+pub mod GiverLemmas
