@@ -83,7 +83,7 @@ module _ (old new : Past) (caller : Caller) (what : Event) (answer : Reply) (ser
       by_cause None h = by_test (is_trace_full old what) (λ k. not_refused TraceFull k.0) (served_answers answer refl) h
 
 -- how the order goes on, by whether a page is taken, a group is made, one is removed, marks are merged, or none of these
-orders_or : {P : Type 0} (old new : State) (order order' : Order) (what : Event) (answer : Reply)
+pub orders_or : {P : Type 0} (old new : State) (order order' : Order) (what : Event) (answer : Reply)
     → ((goal : Goal) (target : ℕ) → took_for what answer ≡ Some target → changes_groups what ≡ false → TakesNext old order goal target new order' → P)
     → ((path : List ℕ) → what ≡ event.Mkdir path → AddsLists order order' → P)
     → ((g : GroupId) → what ≡ event.Rmdir g → RemovesLists (node_at old.tree g.0).parent g.0 order order' → P)

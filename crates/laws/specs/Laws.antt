@@ -1,6 +1,6 @@
 -- The headline in the words of its users: what holds of every step and of every run.
-use Rattle.std.specs.Prelude.{◌≡◌, ◌≢◌, ◌⊎◌, ℕ, ◌+◌, ◌<◌, ◌≤◌, ◌==◌, ◌&&◌, nat_lt, if◌then◌else◌, MatchBool, Bool, true, false, List, ◌∷◌, ◌++◌, length, sum_by, Ok, Err, Option, Some, None, slice_get, slice_set}
-use Rattle.std.specs.List.{AllByRecursion}
+use Rattle.std.specs.Prelude.{◌≡◌, ◌≢◌, ◌⊎◌, ℕ, ◌+◌, ◌<◌, ◌≤◌, ◌==◌, ◌&&◌, not, nat_lt, if◌then◌else◌, MatchBool, Bool, true, false, List, [], ◌∷◌, ◌++◌, length, sum_by, Ok, Err, Option, Some, None, slice_get, slice_set}
+use Rattle.std.specs.List.{AllByRecursion, list_any}
 use Rattle.machine.specs.declared.amount.Amount.TheVariants.{Pages}
 use Rattle.machine.specs.declared.config.Config.{Config}
 use Rattle.machine.specs.declared.config.Placement.{Placement}
@@ -37,7 +37,7 @@ use Rattle.machine.specs.declared.command.Reply.{Reply as Told_by}
 use Rattle.machine.specs.Slots.{there_and, count_there}
 use Rattle.machine.specs.Amounts.{exceeds}
 use Rattle.machine.specs.Counts.{no_limits, limits_at, guard_of, count_of_key, with_event, local, total, Counted, how_often}
-use Rattle.machine.specs.Tree.{Node, node_at, is_child, is_live, children, under}
+use Rattle.machine.specs.Tree.{Node, node_at, is_child, is_live, children, under, preorder}
 use Rattle.machine.specs.Pages.{OfFile, Residence, Away, Page, page_at, is_anon, is_held, frame_at, block_at, ticket_at, is_in_transfer, is_charged, is_number, in_transfer, used_frames, used_swap, file_page, IsFiled}
 use Rattle.machine.specs.Tasks.{Tasks, task_at, task_of, lives, group_of_task, mapped_at, size_of}
 use Rattle.machine.specs.State.{Opening, State, page_numbers, usage, effective_in, effective_min, effective_low, is_swap_free, opening_of, blocks_of}
@@ -45,8 +45,8 @@ use Rattle.machine.specs.Reclaim.{is_takeable, is_idle, target_of, goal_in}
 use Rattle.machine.specs.Generations.{row_of, listed, gens_at, AreDistinct}
 use Rattle.machine.specs.Aging.{is_marked, has_mark}
 use Rattle.machine.specs.Eviction.{old_pages}
-use Rattle.machine.specs.Order.{cursor_at, heeds_age}
-use Rattle.machine.specs.Lists.{HeldLists, hits_at, kind_at, Youngest, gives_old, served, cursor_served, PicksOf, ListsHeld, AreGenerations, generation_for, GoesOn, shown_at, is_in_bits, is_last_hit, MergesMarks, with_group, RemovesLists}
+use Rattle.machine.specs.Order.{cursor_at, heeds_age, takes_parts, in_turn, asking_order}
+use Rattle.machine.specs.Lists.{HeldLists, hits_at, kind_at, Youngest, gives, gives_old, served, cursor_served, PicksOf, ListsHeld, AreGenerations, generation_for, GoesOn, shown_at, is_in_bits, is_last_hit, MergesMarks, with_group, RemovesLists}
 use Rattle.machine.specs.Victim.{flag_at, is_live_under, is_candidate, is_flagged}
 use Rattle.machine.specs.Refusals.{refusal}
 use Rattle.machine.specs.Step.{Step}
@@ -484,6 +484,75 @@ IdleIsLeftAlone =
     → heeds_age config.placement (goal_in what) target ≡ true → (h : ℕ) → gives_old end.past.state end.past.order.held target h ≡ true
     → (p : ℕ) (page : Page) → page_at end.past.state.pages p ≡ Some page → is_held page ≡ true → there_and is_held (page_at after.state.pages p) ≡ false
     → gives_old end.past.state end.past.order.held target page.group ≡ true
+
+-- ---- turns
+
+-- a call of the book, its answer, and what it led to
+pub record Call : Type 0 where
+  pub caller : Caller
+  pub what : Event
+  pub answer : Reply
+  pub after : Past
+
+abbrev pub changes_groups : Event → Bool
+changes_groups (event.Mkdir path) = true
+changes_groups (event.Rmdir g) = true
+changes_groups what = false
+
+-- one call after the other, and none of them makes or removes a group
+abbrev pub Follow : Past → List Call → Type 0
+Follow past [] = Unit {0}
+Follow past (c ∷ later) = Called past c.caller c.what c.answer c.after × (changes_groups c.what ≡ false) × Follow c.after later
+
+abbrev pub takes_for : ℕ → Call → Bool
+takes_for target c = is_number (took_for c.what c.answer) target
+
+-- the groups in the order in which a reclaim asks them
+abbrev pub order_of : Past → Goal → ℕ → List ℕ
+order_of past goal target = asking_order (takes_parts past.state.opening.placement goal) past.state.tree target (cursor_at past.order.cursors target)
+
+-- a reclaim asks the group for a page: it has one to give; and where age is heeded and one of the groups has an old page of a file to give, so has this one
+abbrev pub is_asked : Past → Goal → ℕ → ℕ → Bool
+is_asked past goal target g =
+    if heeds_age past.state.opening.placement goal target && list_any (gives_old past.state past.order.held target) (order_of past goal target) then gives_old past.state past.order.held target g
+    else gives past.state target g
+
+-- so it is at each call that takes a page for the target
+abbrev pub IsAskedThroughout : ℕ → ℕ → Past → List Call → Type 0
+IsAskedThroughout target g past [] = Unit {0}
+IsAskedThroughout target g past (c ∷ later) = (takes_for target c ≡ true → is_asked past (goal_in c.what) target g ≡ true) × IsAskedThroughout target g c.after later
+
+-- the group gives a page to the target
+abbrev pub gives_in : ℕ → ℕ → Past → Call → Bool
+gives_in target g past c = takes_for target c && is_number (served past.state past.order (goal_in c.what) target) g
+
+-- a turn of the group goes on
+abbrev pub turn_goes_on : ℕ → ℕ → Past → Call → Bool
+turn_goes_on target g past c = list_any (λ a. a == g) (in_turn (takes_parts past.state.opening.placement (goal_in c.what)) past.state.tree target (cursor_at past.order.cursors target))
+
+-- how many pages the group gives to the target in these calls
+abbrev pub pages_given : ℕ → ℕ → Past → List Call → ℕ
+pages_given target g past [] = 0
+pages_given target g past (c ∷ later) = (if gives_in target g past c then 1 else 0) + pages_given target g c.after later
+
+-- and how many turns of it begin
+abbrev pub turns_begun : ℕ → ℕ → Past → List Call → ℕ
+turns_begun target g past [] = 0
+turns_begun target g past (c ∷ later) = (if gives_in target g past c && not (turn_goes_on target g past c) then 1 else 0) + turns_begun target g c.after later
+
+-- each page that is taken for the target is one of a turn of one page
+abbrev pub IsByTurns : ℕ → Past → List Call → Type 0
+IsByTurns target past [] = Unit {0}
+IsByTurns target past (c ∷ later) = (takes_for target c ≡ true → takes_parts past.state.opening.placement (goal_in c.what) ≡ false) × IsByTurns target c.after later
+
+-- whatever a run led to, and while no group is made or removed: no group begins more than one turn more than each group at or below the target that is asked all the while. Where a turn is one page,
+-- it gives at most one page more. (Excludes a pass that begins at the target each time, one cursor for all targets, and a group that is passed over.)
+abbrev pub SharesAreEven : Type 0
+SharesAreEven =
+    (config : Config) (before : Disk) (steps : List Line) (answers : List Told_by) (end : World) → Runs (first_world config before) steps answers end
+    → (target g h : ℕ) (calls : List Call) → Follow end.past calls → list_any (λ a. a == h) (preorder end.past.state.tree target) ≡ true → IsAskedThroughout target h end.past calls
+    → (turns_begun target g end.past calls ≤ turns_begun target h end.past calls + 1)
+    × (IsByTurns target end.past calls → pages_given target g end.past calls ≤ pages_given target h end.past calls + 1)
 
 -- and a page that is marked is taken only where each old page of its group is: those that may be taken, and that are of none of the two youngest generations. (Excludes a page that
 -- was used since it was last looked at, taken while an old one of its group was not.)
