@@ -3,8 +3,7 @@
 //! shares of small trees, which are compared with their rule. A script that can be written down is a case of the crate
 //! `cases`: add it there.
 //!
-//! `words` and `faulty_words` test what command lines ask for, and what is said of faulty ones. `failing` has readers and
-//! writers: some fail, some give and take little at a time, and some never end.
+//! `words` and `faulty_words` test what command lines ask for, and what is said of faulty ones.
 //!
 //! What a test expects comes from the rules, never from a run.
 #![tactic(auto)]
@@ -15,8 +14,6 @@ mod case;
 mod drawn;
 #[cfg(test)]
 mod explanations;
-#[cfg(test)]
-mod failing;
 #[cfg(test)]
 mod faulty_scripts;
 #[cfg(test)]

@@ -22,7 +22,6 @@ mod OomGroupHistoryExamples
 mod SharingExamples
 mod SharedHistoryExamples
 mod RemovalExamples
-mod SwappedExamples
 mod RemovalHistoryExamples
 mod ConfigExamples
 mod ControlExamples

@@ -4,6 +4,7 @@ pub mod ReclaimLemmas
 pub mod RiseLemmas
 pub mod CallLemmas
 pub mod OrderLemmas
+pub mod OnceLemmas
 pub mod RoundLemmas
 pub mod EvenLemmas
 pub mod HandLemmas

@@ -8,4 +8,3 @@ pub mod PicksLemmas
 pub mod CursorLemmas
 pub mod TakeableLemmas
 pub mod GiverLemmas
-pub mod RegroupedLemmas

@@ -1,5 +1,3 @@
 pub mod WalkLemmas
-pub mod PreorderOnce
-pub mod OnceLemmas
 pub mod PassLemmas
 pub mod TurnLemmas

@@ -24,7 +24,8 @@ const OF_SCRIPTS: [&str; 10] = [
 ];
 
 /// Words that begin a line of a scenario, and no line of a script.
-const OF_SCENARIOS: [&str; 9] = [
+const OF_SCENARIOS: [&str; 10] = [
+    "page",
     "memory",
     "placement",
     "protection",

@@ -1,4 +1,2 @@
 mod ConfirmingLemmas
 mod PlainLemmas
-mod TaskLemmas
-mod VerdictLemmas

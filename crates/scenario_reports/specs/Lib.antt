@@ -1,4 +1,2 @@
 pub mod Confirming
 pub mod Faulty
-pub mod Tasks
-pub mod Verdicts

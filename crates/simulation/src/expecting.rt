@@ -1,7 +1,5 @@
 //! Expectations.
 
-ghost use Rattle.std.specs.Prelude.{◌≡◌, ◌&&◌};
-
 use crate::run::{Run, say};
 use block_store::MemDevice;
 use drafts::Draft;
@@ -159,9 +157,7 @@ impl<'p> Run<'p> {
         words: &Text,
         verdict: &Verdict,
         out: &mut O,
-    ) -> Result<(), Problem>
-        ensures { self.new.well ≡ (self.old.well && verdict.now.met) }
-    {
+    ) -> Result<(), Problem> {
         self.well = self.well && verdict.met;
         match self.asked.prints {
             Prints::Report => {}
