@@ -251,9 +251,10 @@ pub fn idle_is_left_alone()
     ensures { IdleIsLeftAlone }
 {}
 
-/// After any run, and while no group is made or removed: no group begins two turns more than a group at or below the
-/// target that is asked all the while. If a turn is one page, as at a limit, no group gives two pages more. A group is
-/// asked if it has a page to give; and if groups with an old page of a file come first, if it has one of these.
+/// After any run, and while no group is made or removed: take a group at or below the target that is asked for each page.
+/// Between two turns of any other group, it has a turn. If each turn is one page, as at a limit, the other group therefore
+/// gives at most one page more. A group is asked if it has a page to give. If groups with an old page of a file come
+/// first, it is asked only if it has one.
 pub fn shares_are_even()
     ensures { SharesAreEven }
 {}
