@@ -30,7 +30,7 @@ os.chdir(os.path.dirname(os.path.dirname(os.path.abspath(__file__))))
 
 # The files of definitions, about in the order in which they build on each other. Those that no public clause cites are left out.
 SPECIFICATIONS = """
-    machine/specs/Names.antt machine/specs/Numbers.antt machine/specs/Amounts.antt machine/specs/Slots.antt machine/specs/Tree.antt
+    machine/specs/Names.antt machine/specs/Numbers.antt machine/specs/Amounts.antt machine/specs/PageSizes.antt machine/specs/Slots.antt machine/specs/Tree.antt
     machine/specs/Pages.antt machine/specs/Counts.antt machine/specs/Protection.antt machine/specs/Order.antt machine/specs/Tasks.antt
     machine/specs/State.antt machine/specs/Reclaim.antt machine/specs/Victim.antt machine/specs/Access.antt machine/specs/Refusals.antt
     machine/specs/Step.antt machine/specs/Generations.antt machine/specs/Aging.antt machine/specs/Eviction.antt machine/specs/Lists.antt

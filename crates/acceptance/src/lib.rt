@@ -3,7 +3,8 @@
 //! shares of small trees, which are compared with their rule. A script that can be written down is a case of the crate
 //! `cases`: add it there.
 //!
-//! `words` and `faulty_words` test what command lines ask for, and what is said of faulty ones.
+//! `words` and `faulty_words` test what command lines ask for, and what is said of faulty ones. `failing` has readers and
+//! writers: some fail, some give and take little at a time, and some never end.
 //!
 //! What a test expects comes from the rules, never from a run.
 #![tactic(auto)]
@@ -14,6 +15,8 @@ mod case;
 mod drawn;
 #[cfg(test)]
 mod explanations;
+#[cfg(test)]
+mod failing;
 #[cfg(test)]
 mod faulty_scripts;
 #[cfg(test)]

@@ -22,7 +22,7 @@ use Rattle.machine.specs.Counts.{with_event}
 use Rattle.machine.specs.Reclaim.{target_of, has_open, has_takeable, has_transfer, counted_at_take}
 use Rattle.reclaim.specs.declared.cursors.Served.{Served}
 use Rattle.machine.specs.Victim.{is_candidate, IsVictim, kill_group_of, killed_with, counts_of_group_kill}
-use Rattle.machine.specs.Step.{Step, TriesCharge}
+use Rattle.machine.specs.Step.{Step, TriesCharge, FetchesSwapped}
 use Rattle.machine.specs.History.{InTask}
 use Rattle.files.specs.Files.{FilesOf}
 use Rattle.pages.specs.PagesOf.{Label, memory_of, of_file, HasResidence, AreFiled, labelled}
@@ -115,15 +115,16 @@ carries-fetch old new fault from g ticket is meets has fetch =
     by_source : (x : Source) → MeetsSource old.tables fault x g → ReadsFrom old.tables.pages (page_numbers old.tables.opening) (files_of old.tables.opening) x g.0 fetch.page fetch.label fetch.block
         → MakesStep old (event.Access fault.task fault.place fault.op) (reply_of (given.Fetch ticket)) new
     by_source (source.Swapped page) meets reads =
-        let stood : HasResidence old.tables.pages fetch.page (memory_of g.0) (Away fetch.block) = subst (λ (l : Label). HasResidence old.tables.pages fetch.page l (Away fetch.block)) reads.1 reads.2 in
-        let same : labelled (memory_of g.0) (Away meets.0) ≡ labelled (memory_of g.0) (Away fetch.block) = some_inj (sym meets.2 ∙ ap (page_at old.tables.pages) reads.0 ∙ stood) in
-        let block : Some meets.0 ≡ Some fetch.block = ap (λ (x : Page). block_at x.residence) same in
-        let begins : BeginsReadIn old new page.0 (memory_of g.0) meets.0 ticket =
-        subst (λ (p : ℕ). BeginsReadIn old new p (memory_of g.0) meets.0 ticket) (sym reads.0)
-        (subst (λ (l : Label). BeginsReadIn old new fetch.page l meets.0 ticket) reads.1 (subst (λ (b : ℕ). BeginsReadIn old new fetch.page fetch.label b ticket) (sym (some_inj block)) fetch.begins)) in
-        makes_step-fetch old new fault _ g.0 page.0 meets.0 (memory_of g.0) ticket is has meets.1 refl refl (ap (there_and is_in_transfer) meets.2) refl begins
-        (λ room starts. granted_step old.tables _ _ _ _ _ room.under room.free starts)
-        (holders-beside old new (moves-pages old.tables new.tables begins.tables) page.0 (Some (labelled (memory_of g.0) (Coming begins.frame meets.0 ticket.number))) begins.begins.placed (λ f q. sym (ap (holds_page f q) meets.2)))
+        let same : labelled (memory_of meets.0) (Away meets.1) ≡ labelled (memory_of reads.2) (Away fetch.block) = some_inj (sym meets.4 ∙ ap (page_at old.tables.pages) reads.0 ∙ reads.3) in
+        let block : Some meets.1 ≡ Some fetch.block = ap (λ (x : Page). block_at x.residence) same in
+        let begins : BeginsReadIn old new page.0 (memory_of g.0) meets.1 ticket =
+        subst (λ (p : ℕ). BeginsReadIn old new p (memory_of g.0) meets.1 ticket) (sym reads.0)
+        (subst (λ (l : Label). BeginsReadIn old new fetch.page l meets.1 ticket) reads.1 (subst (λ (b : ℕ). BeginsReadIn old new fetch.page fetch.label b ticket) (sym (some_inj block)) fetch.begins)) in
+        makes_step-fetch old new fault _ g.0 page.0 meets.1 (memory_of g.0) ticket is has meets.3 refl (ap (λ (n : ℕ). Some n) (sym meets.2)) (ap (there_and is_in_transfer) meets.4) refl begins
+        (λ room starts.
+        subst (λ (n : ℕ). FetchesSwapped old.tables page.0 (labelled (memory_of meets.0) (Away meets.1)) meets.1 n (reply.Fetch (record { 0 = ticket.number })) new.tables) meets.2
+        (granted_step old.tables _ _ _ _ _ room.under room.free starts))
+        (holders-beside old new (moves-pages old.tables new.tables begins.tables) page.0 (Some (labelled (memory_of g.0) (Coming begins.frame meets.1 ticket.number))) begins.begins.placed (λ f q. sym (ap (holds_page f q) meets.4)))
     by_source (source.File at) meets reads =
         let home = home_block old.tables.opening.swap old.tables.opening.files at.file at.page in
         let label = of_file at.file at.page fault.group.0 false in

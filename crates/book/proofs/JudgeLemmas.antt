@@ -1,5 +1,5 @@
 -- What is judged of an event before anything changes.
-use Rattle.std.proofs.Common.{◌≡◌, ℕ, arith, Bool, true, Option, Some, None, refl, sym, ap, subst, ◌∙◌, false}
+use Rattle.std.proofs.Common.{inl, inr, ◌≡◌, ℕ, arith, Bool, true, Option, Some, None, refl, sym, ap, subst, ◌∙◌, false}
 use Rattle.std.specs.Prelude.{IsSome, IfSome, nat_lt, option_map, slice_index}
 use Rattle.std.proofs.lemmas.Bool.Decides.{nat_tests}
 use Rattle.std.proofs.lemmas.Bool.{and_parts}
@@ -11,6 +11,7 @@ use Rattle.machine.specs.Slots.{there_and}
 use Rattle.machine.specs.Tree.{is_live}
 use Rattle.machine.specs.Tasks.{Tasks, task_at, is_live_task, lives, group_of, group_of_task, mapped_at}
 use Rattle.machine.proofs.Values.{some_inj}
+use Rattle.page_lists.proofs.RegroupedLemmas.{swap-either}
 use Rattle.machine.proofs.FileLemmas.{file_page-there}
 use Rattle.files.specs.Files.{FilesOf}
 use Rattle.pages.specs.PagesOf.{Label, labelled, label_of, memory_of, HasResidence, residence_of, AreFiled}
@@ -21,7 +22,7 @@ use Rattle.machine.specs.declared.event.Place.{Place}
 use Rattle.machine.specs.declared.event.Place.TheVariants.{Virtual, File}
 use Rattle.machine.specs.declared.event.Op.{Op}
 use Rattle.machine.specs.Access as plain
-use Rattle.machine.specs.Access.{page_size, is_place, is_shared_write, meets, charges}
+use Rattle.machine.specs.Access.{page_size, is_place, is_shared_write, meets, charged_from_swap, charges}
 use Rattle.machine.specs.History.{spot_of}
 use Rattle.book_events.specs.Spots.{holder}
 use Rattle.page_state.specs.Mapped.{AreMapped}
@@ -61,8 +62,8 @@ is-away r b said = grind (arith, said)
 -- ---- what an access needs
 
 -- the charge that it needs is granted
-pub room-for : (s : State) (fault : PageFault) (met : plain.Meeting) (g : ℕ) → HasRoomFor s fault → met_by s fault ≡ met → charges met fault.group.0 ≡ Some g → HasRoom s g
-room-for s fault met g has meeting needs = has g (ap (λ (m : plain.Meeting). charges m fault.group.0) meeting ∙ needs)
+pub room-for : (s : State) (fault : PageFault) (met : plain.Meeting) (g : ℕ) → HasRoomFor s fault → met_by s fault ≡ met → charges s.opening.placement met fault.group.0 ≡ Some g → HasRoom s g
+room-for s fault met g has meeting needs = has g (ap (λ (m : plain.Meeting). charges s.opening.placement m fault.group.0) meeting ∙ needs)
 
 -- ---- what an access meets that finds a page
 
@@ -111,33 +112,47 @@ found-there s t p (Virtual v o) mapped found = mapped_there s.pages s.page_table
 found-there s t p (File f q o) mapped found = (let there = file_page-there s.pages f q p found in subst (λ (slot : Option Page). IsSome slot) (sym there.1) refl)
 
 -- on its block alone, where it is memory
-pub meets-away : (files : FilesOf) (s : State) (fault : PageFault) (p b : ℕ) (g : GroupId) → AreFiled files s.pages → Finds s fault p (Away b) → option_map (λ (page : Page). page.group) (page_at s.pages p) ≡ Some g.0
-    → MeetsSource s fault (source.Swapped (record { 0 = p })) g
-meets-away files s fault p b g filed finds group = by_place fault.place refl
+pub meets-away : (files : FilesOf) (s : State) (fault : PageFault) (p b : ℕ) (h g : GroupId) → AreFiled files s.pages → Finds s fault p (Away b) → option_map (λ (page : Page). page.group) (page_at s.pages p) ≡ Some h.0
+    → g.0 ≡ charged_from_swap s.opening.placement h.0 fault.group.0 → MeetsSource s fault (source.Swapped (record { 0 = p })) g
+meets-away files s fault p b h g filed finds group charged = by_place fault.place refl
   where
     by_place : (place : Place) → fault.place ≡ place → MeetsSource s fault (source.Swapped (record { 0 = p })) g
     by_place (Virtual v o) is =
         let memory = away-memory files s.pages filed p b finds.label finds.stands in
-        let own : memory.0 ≡ g.0 = some_inj (sym (ap (option_map (λ (page : Page). page.group)) memory.1) ∙ group) in
+        let own : memory.0 ≡ h.0 = some_inj (sym (ap (option_map (λ (page : Page). page.group)) memory.1) ∙ group) in
         let found : mapped_at s.page_tables fault.task.0 v ≡ Some p = sym (ap (λ (x : Place). holder s (spot_of fault.task.0 x)) is) ∙ finds.found in
-        let stands : HasResidence s.pages p (memory_of g.0) (Away b) = subst (λ (x : ℕ). HasResidence s.pages p (memory_of x) (Away b)) own memory.1 in
-        (b, ap (λ (x : Place). meets s fault.task.0 x fault.op) is ∙ rw found (rw stands refl), stands)
+        let stands : HasResidence s.pages p (memory_of h.0) (Away b) = subst (λ (x : ℕ). HasResidence s.pages p (memory_of x) (Away b)) own memory.1 in
+        (h.0, b, charged, ap (λ (x : Place). meets s fault.task.0 x fault.op) is ∙ rw found (rw stands refl), stands)
     by_place (File f q o) is = absurd (cached-never_away files s.pages filed f q p b finds.label (sym (ap (λ (x : Place). holder s (spot_of fault.task.0 x)) is) ∙ finds.found) finds.stands)
 
 -- what is read in can be
-pub source-readable : (s : State) (fault : PageFault) (from : Source) (g : GroupId) → IsFault s fault → MeetsSource s fault from g → IsReadable s.pages (files_of s.opening) from g.0
-source-readable s fault (source.Swapped p) g is met = (met.0, met.2)
+pub source-readable : (s : State) (fault : PageFault) (from : Source) (g : GroupId) → IsFault s fault → MeetsSource s fault from g → IsReadable s.pages (files_of s.opening) from
+source-readable s fault (source.Swapped p) g is met = (met.0, met.1, met.4)
 source-readable s fault (source.File at) g is met =
     let within = (and_parts (nat_lt at.page (slice_index s.opening.files at.file)) (nat_lt (offset_at fault) page_size) (sym (ap (is_place s.opening) met.1) ∙ is.there)).0 in (grind (arith, nat_tests, within), met.2)
 
 -- and the group that is charged for it is there
 pub source-live : (s : State) (fault : PageFault) (from : Source) (g : GroupId) → ((t : ℕ) → lives s.tasks t ≡ true → is_live s.tree (group_of_task s.tasks t) ≡ true)
     → ((p : ℕ) → IfSome (page_at s.pages p) (λ page. is_live s.tree page.group ≡ true)) → IsFault s fault → MeetsSource s fault from g → is_live s.tree g.0 ≡ true
-source-live s fault (source.Swapped p) g homes groups is meets = subst (λ (slot : Option Page). IfSome slot (λ page. is_live s.tree page.group ≡ true)) meets.2 (groups p.0)
-source-live s fault (source.File at) g homes groups is meets =
-    subst (λ (x : GroupId). is_live s.tree x.0 ≡ true) (sym meets.3) (subst (λ (n : ℕ). is_live s.tree n ≡ true) (known-home s.tasks fault.task.0 _ is.known) (homes fault.task.0 (ap (there_and is_live_task) is.known)))
+source-live s fault from g homes groups is meets = by_source from meets
+  where
+    home : is_live s.tree fault.group.0 ≡ true
+    home = subst (λ (n : ℕ). is_live s.tree n ≡ true) (known-home s.tasks fault.task.0 _ is.known) (homes fault.task.0 (ap (there_and is_live_task) is.known))
+
+    by_source : (x : Source) → MeetsSource s fault x g → is_live s.tree g.0 ≡ true
+    by_source (source.Swapped p) meets =
+        ap (is_live s.tree) meets.2
+        ∙ elim (swap-either s.opening.placement meets.0 fault.group.0) [
+          | inl own ↦ ap (is_live s.tree) own ∙ subst (λ (slot : Option Page). IfSome slot (λ page. is_live s.tree page.group ≡ true)) meets.4 (groups p.0)
+          | inr reads ↦ ap (is_live s.tree) reads ∙ home
+        ]
+    by_source (source.File at) meets = subst (λ (x : GroupId). is_live s.tree x.0 ≡ true) (sym meets.3) home
+
+-- it is the one that the access charges
+pub source-charges : (s : State) (fault : PageFault) (from : Source) (g : GroupId) → MeetsSource s fault from g → charges s.opening.placement (met_by s fault) fault.group.0 ≡ Some g.0
+source-charges s fault (source.Swapped p) g meets = ap (λ (m : plain.Meeting). charges s.opening.placement m fault.group.0) meets.3 ∙ ap (λ (n : ℕ). Some n) (sym meets.2)
+source-charges s fault (source.File at) g meets = ap (λ (m : plain.Meeting). charges s.opening.placement m fault.group.0) meets.0 ∙ ap (λ (x : GroupId). Some x.0) (sym meets.3)
 
 -- and has room for it
 pub source-room : (s : State) (fault : PageFault) (from : Source) (g : GroupId) → HasRoomFor s fault → MeetsSource s fault from g → HasRoom s g.0
-source-room s fault (source.Swapped p) g has meets = room-for s fault _ g.0 has meets.1 refl
-source-room s fault (source.File at) g has meets = subst (λ (x : GroupId). HasRoom s x.0) (sym meets.3) (room-for s fault _ fault.group.0 has meets.0 refl)
+source-room s fault from g has meets = has g.0 (source-charges s fault from g meets)

@@ -187,7 +187,7 @@ flights-ended old new n answer unlisted = flights-changed old new n None answer 
 -- ---- a read-in begins
 
 -- it needs an entry for the end too
-pub fetch-needs : (s : State) (fault : PageFault) (met : Meeting) (g : ℕ) → IsFault s fault → HasRoomFor s fault → met_by s fault ≡ met → is_fetch met ≡ true → charges met fault.group.0 ≡ Some g
+pub fetch-needs : (s : State) (fault : PageFault) (met : Meeting) (g : ℕ) → IsFault s fault → HasRoomFor s fault → met_by s fault ≡ met → is_fetch met ≡ true → charges s.opening.placement met fault.group.0 ≡ Some g
     → need s (event.Access fault.task fault.place fault.op) ≡ 2
 fetch-needs s fault met g is has meeting fetch needs =
     let room = room-for s fault met g has meeting needs in
@@ -207,7 +207,7 @@ starts-fetch old new p b label ticket clean begins =
 
 -- a page begins to be read in, whichever it is
 pub makes_step-fetch : (old new : StateOf) (fault : PageFault) (met : Meeting) (g p b : ℕ) (label : Label) (ticket : TicketOf) → IsFault old.tables fault → HasRoomFor old.tables fault → met_by old.tables fault ≡ met → is_fetch met ≡ true
-    → charges met fault.group.0 ≡ Some g → there_and is_in_transfer (page_at old.tables.pages p) ≡ false → label.dirty ≡ false → BeginsReadIn old new p label b ticket
+    → charges old.tables.opening.placement met fault.group.0 ≡ Some g → there_and is_in_transfer (page_at old.tables.pages p) ≡ false → label.dirty ≡ false → BeginsReadIn old new p label b ticket
     → (HasRoom old.tables g → StartsFetch old.tables p label.group label.content b (reply.Fetch (record { 0 = ticket.number })) new.tables
     → MeetStep old.tables fault.task.0 fault.group.0 fault.op met (reply.Fetch (record { 0 = ticket.number })) new.tables)
     → ((spot : Spot) → KnowsSpot new spot → holder new.tables spot ≡ holder old.tables spot)

@@ -1,5 +1,5 @@
 -- How many entries a decision needs, and whether it may want memory: what the machine says of its event.
-use Rattle.std.proofs.Common.{◌≡◌, ◌∙◌, ℕ, Bool, true, false, if◌then◌else◌, refl, sym, ap, ◌&&◌, arith}
+use Rattle.std.proofs.Common.{Some, ◌≡◌, ◌∙◌, ℕ, Bool, true, false, if◌then◌else◌, refl, sym, ap, ◌&&◌, arith}
 use Rattle.machine.specs.declared.event.Event.{Event}
 use Rattle.machine.specs.declared.event.Event.TheVariants as event
 use Rattle.machine.specs.State.{State}
@@ -30,7 +30,7 @@ module _ (s : State) (fault : PageFault) (is : IsFault s fault) where
   access-entries meeting.Transferring meets room = rw is.known (rw meets refl)
   access-entries (meeting.NeedsPage v byte) meets room = rw is.known (rw meets.0 refl)
   access-entries (meeting.NeedsCopy v p byte) meets room = rw is.known (rw meets.0 refl)
-  access-entries (meeting.NeedsFetch (source.Swapped p) g) meets room = sym (fetch-needs s fault _ g.0 is room meets.1 refl refl)
+  access-entries (meeting.NeedsFetch (source.Swapped p) g) meets room = sym (fetch-needs s fault _ g.0 is room meets.3 refl (ap (λ (n : ℕ). Some n) (sym meets.2)))
   access-entries (meeting.NeedsFetch (source.File at) g) meets room = sym (fetch-needs s fault _ fault.group.0 is room meets.0 refl refl)
 
   lacks-entries : (why : NoRoom) → LacksRoomFor s fault why → 1 ≡ need s (event.Access fault.task fault.place fault.op)

@@ -10,7 +10,7 @@ use Rattle.machine.specs.State.{State}
 use Rattle.machine.specs.Generations.{Gens, taken_over, emptied, gens_at, with_gens, handed_over}
 use Rattle.machine.specs.Lists.{Order, RemovesLists}
 use Rattle.machine.specs.Step.{Removes, regrouped}
-use Rattle.machine.proofs.RemovedLemmas.{regrouped-test, count-alike}
+use Rattle.page_lists.proofs.RegroupedLemmas.{count-regrouped, regrouped-test}
 use Rattle.machine.proofs.FileLemmas.{file_page-same}
 use Rattle.page_state.specs.States.{StateOf}
 use Rattle.page_state.specs.Changes.{RemovesGroup}
@@ -45,11 +45,10 @@ module _ (old new : StateOf) (g : ℕ) (removes : RemovesGroup old new g) where
   -- each page is where it was
   memory_kept : (p : ℕ) → there_and (λ (page : Page). is_in_memory page.residence) (page_at new.tables.pages p) ≡ there_and (λ (page : Page). is_in_memory page.residence) (page_at old.tables.pages p)
   memory_kept p =
-      ap (there_and (λ (page : Page). is_in_memory page.residence)) (removes.pages p) ∙ regrouped-test (λ (page : Page). is_in_memory page.residence) g removes.parent (λ page. refl) (page_at old.tables.pages p)
+      ap (there_and (λ (page : Page). is_in_memory page.residence)) (removes.pages p) ∙ regrouped-test (λ (page : Page). is_in_memory page.residence) old.tables.opening.placement g removes.parent (λ page. refl) (page_at old.tables.pages p)
 
   moving_kept : in_transfer new.tables.pages ≡ in_transfer old.tables.pages
-  moving_kept =
-      count-alike is_in_transfer is_in_transfer old.tables.pages new.tables.pages (λ p. ap (there_and is_in_transfer) (removes.pages p) ∙ regrouped-test is_in_transfer g removes.parent (λ page. refl) (page_at old.tables.pages p))
+  moving_kept = count-regrouped old.tables.opening.placement g removes.parent old.tables.pages new.tables.pages removes.pages is_in_transfer (λ page. refl)
 
   -- and each place shows what it did
   same_place : (t v : ℕ) → mapped_at new.tables.page_tables t v ≡ mapped_at old.tables.page_tables t v
@@ -59,7 +58,7 @@ module _ (old new : StateOf) (g : ℕ) (removes : RemovesGroup old new g) where
   same_found : (f q : ℕ) → file_page new.tables.pages f q ≡ file_page old.tables.pages f q
   same_found f q = file_page-same old.tables.pages new.tables.pages (λ p. ap (option_map (λ (page : Page). page.content)) (removes.pages p) ∙ same_content (page_at old.tables.pages p)) f q
     where
-      same_content : (slot : Option Page) → option_map (λ (page : Page). page.content) (option_map (regrouped g removes.parent) slot) ≡ option_map (λ (page : Page). page.content) slot
+      same_content : (slot : Option Page) → option_map (λ (page : Page). page.content) (option_map (regrouped old.tables.opening.placement g removes.parent) slot) ≡ option_map (λ (page : Page). page.content) slot
       same_content None = refl
       same_content (Some page) = refl
 

@@ -22,7 +22,7 @@ use Rattle.machine.specs.Pages.{Held, Page, Pages, file_page, is_held_in, in_tra
 use Rattle.machine.specs.Counts.{no_limits, no_counts, with_event}
 use Rattle.machine.specs.Tasks.{Tasks, PageTables, task_at, lives, mapped_at}
 use Rattle.machine.specs.State.{State, Opening}
-use Rattle.machine.specs.Access.{Meeting, Hits, page_size, meets, Unmapped, NeedsPage, NeedsCopy, NeedsSwapIn, NeedsRead, task_pages, is_place, charges, Transferring}
+use Rattle.machine.specs.Access.{Meeting, Hits, page_size, meets, Unmapped, NeedsPage, NeedsCopy, NeedsSwapIn, NeedsRead, task_pages, is_place, charged_from_swap, charges, Transferring}
 use Rattle.machine.specs.Call.{fetches, need}
 use Rattle.machine.specs.Reclaim.{stands, target_of, has_takeable, has_transfer}
 use Rattle.machine.specs.Generations.{Gens, new_gens, gens_at}
@@ -356,11 +356,11 @@ makes_step-hit_read s fault p f is finds meeting read listed =
     (rw read (sym (ap (λ m. byte_shown s.bytes m (offset_at fault)) finds.found), (knows-some s (spot_at fault) p finds.found (ap (there_and (λ (page : Page). is_in_memory page.residence)) finds.stands), fault-within s.tables fault is))) (access-needs s.tables fault.task.0 fault.place fault.op)
 
 -- what needs a charge tries it
-pub tries_charge : (s : State) (t g h : ℕ) (op : Op) (met : Meeting) (answer : Reply) (new : State) → charges met g ≡ Some h → ((Granted : Type 0) → TriesCharge s h Granted answer new) → MeetStep s t g op met answer new
+pub tries_charge : (s : State) (t g h : ℕ) (op : Op) (met : Meeting) (answer : Reply) (new : State) → charges s.opening.placement met g ≡ Some h → ((Granted : Type 0) → TriesCharge s h Granted answer new) → MeetStep s t g op met answer new
 tries_charge s t g h op (NeedsPage v) answer new needs tries = subst (λ (x : ℕ). TriesCharge s x (MakesPage s t v g op answer new) answer new) (sym (some_inj needs)) (tries _)
 tries_charge s t g h op (NeedsCopy v) answer new needs tries = subst (λ (x : ℕ). TriesCharge s x (MakesPage s t v g op answer new) answer new) (sym (some_inj needs)) (tries _)
 tries_charge s t g h op (NeedsSwapIn p page block) answer new needs tries =
-    subst (λ (x : ℕ). TriesCharge s x (StartsFetch s p page.group page.content block answer new) answer new) (sym (some_inj needs)) (tries _)
+    subst (λ (x : ℕ). TriesCharge s x (StartsFetch s p (charged_from_swap s.opening.placement page.group g) page.content block answer new) answer new) (sym (some_inj needs)) (tries _)
 tries_charge s t g h op (NeedsRead file q) answer new needs tries = subst (λ (x : ℕ). TriesCharge s x (ReadsFile s file q g answer new) answer new) (sym (some_inj needs)) (tries _)
 tries_charge s t g h op other answer new needs tries = cc
 

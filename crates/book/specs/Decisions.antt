@@ -13,7 +13,7 @@ use Rattle.machine.specs.Pages.{Residence, Held, Away, file_page}
 use Rattle.machine.specs.Tasks.{task_at, lives, mapped_at}
 use Rattle.machine.specs.State.{State}
 use Rattle.machine.specs.Access as plain
-use Rattle.machine.specs.Access.{Meeting as Met, task_pages, is_place, meets, charges}
+use Rattle.machine.specs.Access.{Meeting as Met, task_pages, is_place, meets, charged_from_swap, charges}
 use Rattle.machine.specs.Refusals.{refusal, number_refusal, rmdir_refusal}
 use Rattle.machine.specs.declared.record.EventCounts.{EventCounts}
 use Rattle.machine.specs.declared.record.Key.TheVariants as key
@@ -70,9 +70,10 @@ pub record Finds (s : State) (fault : PageFault) (p : ℕ) (residence : Residenc
 abbrev pub met_by : State → PageFault → Met
 met_by s fault = meets s fault.task.0 fault.place fault.op
 
--- what it has read in, and the group that is charged for it: memory's own, or the task's
+-- what it has read in, and the group that is charged for it: for memory the one that the placement says, and else the task's
 abbrev pub MeetsSource : State → PageFault → Source → GroupId → Type 0
-MeetsSource s fault (source.Swapped p) g = (b : ℕ) × (met_by s fault ≡ plain.NeedsSwapIn p.0 (labelled (memory_of g.0) (Away b)) b) × HasResidence s.pages p.0 (memory_of g.0) (Away b)
+MeetsSource s fault (source.Swapped p) g =
+    (h b : ℕ) × (g.0 ≡ charged_from_swap s.opening.placement h fault.group.0) × (met_by s fault ≡ plain.NeedsSwapIn p.0 (labelled (memory_of h) (Away b)) b) × HasResidence s.pages p.0 (memory_of h) (Away b)
 MeetsSource s fault (source.File at) g =
     (met_by s fault ≡ plain.NeedsRead at.file at.page) × (fault.place ≡ File at.file at.page (offset_at fault)) × (file_page s.pages at.file at.page ≡ None) × (g ≡ fault.group)
 
@@ -87,10 +88,10 @@ MeetsSo s fault (meeting.NeedsFetch from g) = MeetsSource s fault from g
 
 -- the charge that it needs is granted, if it needs one; or it needs one that is not
 abbrev pub HasRoomFor : State → PageFault → Type 0
-HasRoomFor s fault = (g : ℕ) → charges (met_by s fault) fault.group.0 ≡ Some g → HasRoom s g
+HasRoomFor s fault = (g : ℕ) → charges s.opening.placement (met_by s fault) fault.group.0 ≡ Some g → HasRoom s g
 
 abbrev pub LacksRoomFor : State → PageFault → NoRoom → Type 0
-LacksRoomFor s fault why = (g : ℕ) × (charges (met_by s fault) fault.group.0 ≡ Some g) × LacksRoom s g why
+LacksRoomFor s fault why = (g : ℕ) × (charges s.opening.placement (met_by s fault) fault.group.0 ≡ Some g) × LacksRoom s g why
 
 -- ---- decisions
 

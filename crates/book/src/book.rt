@@ -33,6 +33,7 @@ use machine::entry::Entry;
 use machine::event::Event as PlainEvent;
 use machine::id::{GroupId, TaskId, TicketId, WorkerId};
 use machine::limit::MOST_PASSES;
+use machine::page_size::PageSize;
 use machine::record::{Direction, Life};
 use machine::refusal::Refusal;
 use machine::reply::Reply as PlainReply;
@@ -457,6 +458,13 @@ impl Book {
         ensures { result ≡ self.now.state.opening.placement }
     {
         self.state.placement()
+    }
+
+    /// How many bytes a page stands for in amounts and texts. The opening determined this.
+    pub fn page_size(&self) -> PageSize
+        ensures { result.bytes ≡ self.now.state.opening.page_size }
+    {
+        self.state.page_size()
     }
 
     /// How many passes were handed out.

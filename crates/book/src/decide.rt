@@ -112,7 +112,7 @@ fn decide_fault<'e>(state: &State, fault: PageFault) -> Decision<'e>
 fn charged(state: &State, fault: PageFault, meeting: Meeting) -> Option<GroupId>
     requires fault { IsFault state.now.tables fault }
     requires meets { MeetsSo state.now.tables fault meeting }
-    ensures charges { option_map (λ g. g.0) result ≡ charges (met_by state.now.tables fault) fault.group.0 }
+    ensures charges { option_map (λ g. g.0) result ≡ charges state.now.tables.opening.placement (met_by state.now.tables fault) fault.group.0 }
     ensures live { IfSome result (λ g. is_live state.now.tables.tree g.0 ≡ true) }
 {
     state.is_joined();
@@ -185,7 +185,7 @@ fn meet_page(state: &State, fault: PageFault, page: PageId) -> Meeting
 }
 
 /// An access to a page on its block, which is memory. The page remains its group's, for an access by any
-/// task.
+/// task. By Linux's placement a page of the root becomes the task's group's.
 fn meet_away(state: &State, fault: PageFault, page: PageId) -> Meeting
     requires { (b : ℕ) × Finds state.now.tables fault page.0 (residence.Away b) }
     ensures { MeetsSo state.now.tables fault result }
@@ -194,7 +194,8 @@ fn meet_away(state: &State, fault: PageFault, page: PageId) -> Meeting
     let Some(group) = state.pages().group(page) else {
         unreachable!()
     };
-    Meeting::NeedsFetch(Source::Swapped(page), group)
+    let charged = state.placement().charged_from_swap(group, fault.group);
+    Meeting::NeedsFetch(Source::Swapped(page), charged)
 }
 
 /// An access to a page in a frame. If other virtual pages map memory too, a write in place would change it

@@ -48,8 +48,8 @@ pub enum Meeting {
     NeedsPage { at: u32, byte: u8 },
     /// A write of this byte to memory in a frame that other virtual pages map too: the virtual page gets a copy.
     NeedsCopy { at: u32, page: PageId, byte: u8 },
-    /// A page is read in, and charged to this group. Memory on its block is charged to its own group. A page of a file
-    /// that no page holds is charged to the task's group.
+    /// A page is read in, and charged to this group. Memory on its block is charged to its own group, or by Linux's
+    /// placement, if that is the root, to the task's. A page of a file that no page holds is charged to the task's group.
     NeedsFetch(Source, GroupId),
 }
 

@@ -1,10 +1,11 @@
 //! A caller of `control_files`.
 
-use control_files::{file_named, has_file, parse_amount, parse_flag, show_text};
+use control_files::{file_named, has_file, parse_amount, parse_flag, parse_page_size, show_text};
 use machine::amount::Amount;
 use machine::config::Placement;
 use machine::control::ControlFile;
 use machine::id::GroupId;
+use machine::page_size::PageSize;
 use machine::record::OomGroup;
 use machine::reply::Shown;
 use std::test::Fail;
@@ -13,12 +14,20 @@ use std::test::Fail;
 fn an_amount_is_read_in_bytes_and_shown_in_bytes(rt: HostRuntime) -> Result<(), Fail> {
     assert_eq!(rt; file_named("memory.max"), Some(ControlFile::Max));
     assert!(rt; !has_file(GroupId::ROOT, ControlFile::Max));
-    assert_eq!(rt; parse_amount("9K"), Some(Amount::Pages(2)));
-    assert_eq!(rt; parse_amount("-1"), None);
+    let small = PageSize::of_4k();
+    assert_eq!(rt; parse_amount(small, "9K"), Some(Amount::Pages(2)));
+    assert_eq!(rt; parse_amount(small, "-1"), None);
     assert_eq!(rt; parse_flag(Placement::Own, "1"), Some(OomGroup::Whole));
     assert_eq!(rt; parse_flag(Placement::Own, "01"), None);
     assert_eq!(rt; parse_flag(Placement::Linux, "01"), Some(OomGroup::Whole));
-    let text = show_text(rt.alloc(), Shown::Amount(Amount::Pages(2)))?;
+    let text = show_text(rt.alloc(), small, Shown::Amount(Amount::Pages(2)))?;
     assert_eq!(rt; text.as_str(), "8192\n");
+    assert!(rt; parse_page_size("96K").is_none());
+    let Some(large) = parse_page_size("1M") else {
+        return Err(Fail::from("1M is a page size"));
+    };
+    assert_eq!(rt; parse_amount(large, "64M"), Some(Amount::Pages(64)));
+    let text = show_text(rt.alloc(), large, Shown::Amount(Amount::Pages(3)))?;
+    assert_eq!(rt; text.as_str(), "3145728\n");
     Ok(())
 }

@@ -8,6 +8,7 @@ use machine::bytes::PAGE_BYTES;
 use machine::config::{Config, File, FileList, Placement, Watermarks};
 use machine::event::{Op, Place};
 use machine::id::{GroupId, TaskId};
+use machine::page_size::PageSize;
 use machine::text::Text;
 use std::alloc::Global;
 use std::test::Fail;
@@ -174,6 +175,7 @@ fn after_swap(alloc: Global, lie: Lie) -> Result<(Result<(), First>, usize), Fai
         turns: 1000,
         recursive: false,
         placement: Placement::Own,
+        page_size: PageSize::of_4k(),
     };
     let place = Place::Virtual { page: 0, offset: 0 };
     let path = Text::new(String::from_str(alloc, "/a")?);
@@ -208,6 +210,7 @@ fn after_a_second_read(alloc: Global, lie: Lie) -> Result<(Result<(), First>, us
         turns: 1000,
         recursive: false,
         placement: Placement::Own,
+        page_size: PageSize::of_4k(),
     };
     let place = Place::File {
         file: 0,
@@ -274,6 +277,7 @@ fn what_is_refused_is_kept_and_leaves_no_entry(rt: HostRuntime) -> Result<(), Fa
         turns: 1000,
         recursive: false,
         placement: Placement::Own,
+        page_size: PageSize::of_4k(),
     };
     let made = Text::new(String::from_str(rt.alloc(), "/a")?);
     let sought = Text::new(String::from_str(rt.alloc(), "/b")?);

@@ -6,6 +6,7 @@ use machine::bytes::PAGE_BYTES;
 use machine::command::{Actor, Answer, Command, Reply, Step};
 use machine::config::{Config, File, FileList, Placement, Watermarks};
 use machine::event::{Op, Place};
+use machine::page_size::PageSize;
 use machine::text::Text;
 use std::alloc::AllocError;
 use std::process::Abort;
@@ -25,6 +26,7 @@ pub fn machine<R: AllocGlobal>(rt: &R) -> Result<Config, AllocError> {
         turns: 1000,
         recursive: false,
         placement: Placement::Own,
+        page_size: PageSize::of_4k(),
     })
 }
 

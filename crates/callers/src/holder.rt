@@ -8,6 +8,7 @@ use crate::shared::{is_alive, shown};
 use files::blocks_for;
 use machine::config::{Config, File, FileList, Placement, Watermarks};
 use machine::id::{GroupId, TaskId, TicketId};
+use machine::page_size::PageSize;
 use machine::record::Direction;
 use machine::text::Text;
 use page_state::State;
@@ -34,6 +35,7 @@ fn open<R: Abort + AllocGlobal>(rt: &R) -> Result<State, AllocError> {
         turns: 1000,
         recursive: false,
         placement: Placement::Own,
+        page_size: PageSize::of_4k(),
     };
     assert!(rt; blocks_for(&config).is_some());
     State::open(rt.alloc(), config)

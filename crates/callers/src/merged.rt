@@ -6,6 +6,7 @@ use book::{Book, Event, Pass, Reply};
 use machine::config::{Config, FileList, Placement, Watermarks};
 use machine::event::{Op, Place};
 use machine::id::{GroupId, TaskId};
+use machine::page_size::PageSize;
 use machine::refusal::Refusal;
 use std::alloc::Global;
 use std::test::Fail;
@@ -24,6 +25,7 @@ fn open(alloc: Global, trace: u32) -> Result<Book, Refusal> {
             turns: 1000,
             recursive: false,
             placement: Placement::Own,
+            page_size: PageSize::of_4k(),
         },
     )
 }

@@ -16,6 +16,7 @@ use live::{Live, Opened, Pass, Report, Roll, Unnamed};
 use machine::command::{Answer, Command, Reply};
 use machine::config::{Config, FileList, Placement, Watermarks};
 use machine::event::{Op, Place};
+use machine::page_size::PageSize;
 use machine::refusal::Refusal;
 use machine::text::Text;
 use std::alloc::{AllocError, Global};
@@ -228,6 +229,7 @@ fn machine(alloc: Global) -> Config {
         turns: 1000,
         recursive: false,
         placement: Placement::Own,
+        page_size: PageSize::of_4k(),
     }
 }
 

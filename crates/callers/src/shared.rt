@@ -8,6 +8,7 @@ ghost use Rattle.machine.specs.Tasks.{is_live_life, lives, mapped_at};
 use files::blocks_for;
 use machine::config::{Config, FileList, Placement, Watermarks};
 use machine::id::{GroupId, PageId, TaskId};
+use machine::page_size::PageSize;
 use machine::record::Life;
 use page_state::State;
 use pages::Residence;
@@ -30,6 +31,7 @@ fn open<R: Abort + AllocGlobal>(rt: &R) -> Result<State, AllocError> {
         turns: 1000,
         recursive: false,
         placement: Placement::Own,
+        page_size: PageSize::of_4k(),
     };
     assert!(rt; blocks_for(&config).is_some());
     State::open(rt.alloc(), config)

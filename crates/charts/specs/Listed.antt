@@ -19,26 +19,26 @@ head = codes "line,group,current,anon,file,max,min,low,refused,oom,oom_kill,used
 abbrev pub cell : List ℕ → List ℕ
 cell text = text ++ 44 ∷ []
 
--- a setting in bytes, or max
-abbrev pub amount_text : Amount → List ℕ
-amount_text Max = codes "max"
-amount_text (Pages pages) = bytes_text pages
+-- a setting in bytes, or max. A page has this size, here and below
+abbrev pub amount_text : ℕ → Amount → List ℕ
+amount_text page_size Max = codes "max"
+amount_text page_size (Pages pages) = bytes_text page_size pages
 
 -- what is charged, in bytes
-abbrev pub charges_text : ℕ → MemoryStat → List ℕ
-charges_text usage stat = cell (bytes_text usage) ++ (cell (bytes_text stat.anon) ++ cell (bytes_text stat.file))
+abbrev pub charges_text : ℕ → ℕ → MemoryStat → List ℕ
+charges_text page_size usage stat = cell (bytes_text page_size usage) ++ (cell (bytes_text page_size stat.anon) ++ cell (bytes_text page_size stat.file))
 
 -- its max, its min and its low
-abbrev pub settings_text : GroupLook → List ℕ
-settings_text look = cell (amount_text look.max) ++ (cell (amount_text look.min) ++ cell (amount_text look.low))
+abbrev pub settings_text : ℕ → GroupLook → List ℕ
+settings_text page_size look = cell (amount_text page_size look.max) ++ (cell (amount_text page_size look.min) ++ cell (amount_text page_size look.low))
 
 -- what was counted
 abbrev pub counts_text : EventCounts → List ℕ
 counts_text counts = cell (decimal counts.max) ++ (cell (decimal counts.oom) ++ cell (decimal counts.oom_kill))
 
 -- the frames of the machine in use and free, and its swap in use, in bytes. (Excludes the free ones in the place of those in use.)
-abbrev pub machine_text : Machine → List ℕ
-machine_text machine = cell (bytes_text machine.used) ++ (cell (bytes_text machine.free) ++ cell (bytes_text machine.swap))
+abbrev pub machine_text : ℕ → Machine → List ℕ
+machine_text page_size machine = cell (bytes_text page_size machine.used) ++ (cell (bytes_text page_size machine.free) ++ cell (bytes_text page_size machine.swap))
 
 -- a comma, a quote or a carriage return
 abbrev pub is_special : ℕ → Bool
@@ -57,27 +57,27 @@ abbrev pub end_text : List ℕ → List ℕ
 end_text phase = text_cell phase ++ 10 ∷ []
 
 -- the line's number, and the group
-abbrev pub cells_text : ℕ → List ℕ → GroupLook → MemoryStat → List ℕ
-cells_text number path look stat = cell (decimal number) ++ (cell path ++ (charges_text look.usage stat ++ (settings_text look ++ counts_text look.local)))
+abbrev pub cells_text : ℕ → ℕ → List ℕ → GroupLook → MemoryStat → List ℕ
+cells_text page_size number path look stat = cell (decimal number) ++ (cell path ++ (charges_text page_size look.usage stat ++ (settings_text page_size look ++ counts_text look.local)))
 
 -- the line of a group: the machine and the phase stand at its end
-abbrev pub line_text : ℕ → List ℕ → Machine → List ℕ → GroupLook → MemoryStat → List ℕ
-line_text number phase machine path look stat = cells_text number path look stat ++ (machine_text machine ++ end_text phase)
+abbrev pub line_text : ℕ → ℕ → List ℕ → Machine → List ℕ → GroupLook → MemoryStat → List ℕ
+line_text page_size number phase machine path look stat = cells_text page_size number path look stat ++ (machine_text page_size machine ++ end_text phase)
 
 abbrev pub stat_or_none : Option MemoryStat → MemoryStat
 stat_or_none None = record { anon = 0; file = 0 }
 stat_or_none (Some stat) = stat
 
 -- and nothing where no group has the path
-abbrev pub look_text : ℕ → List ℕ → Machine → List ℕ → Option MemoryStat → Option GroupLook → List ℕ
-look_text number phase machine path stat None = []
-look_text number phase machine path stat (Some look) = line_text number phase machine path look (stat_or_none stat)
+abbrev pub look_text : ℕ → ℕ → List ℕ → Machine → List ℕ → Option MemoryStat → Option GroupLook → List ℕ
+look_text page_size number phase machine path stat None = []
+look_text page_size number phase machine path stat (Some look) = line_text page_size number phase machine path look (stat_or_none stat)
 
 -- the lines of all paths behind one step
-abbrev pub groups_text : ℕ → List ℕ → Machine → List (List ℕ) → List Shown → List ℕ
-groups_text number phase machine [] shown = []
-groups_text number phase machine (path ∷ paths) [] = []
-groups_text number phase machine (path ∷ paths) (one ∷ shown) = look_text number phase machine path one.stat one.look ++ groups_text number phase machine paths shown
+abbrev pub groups_text : ℕ → ℕ → List ℕ → Machine → List (List ℕ) → List Shown → List ℕ
+groups_text page_size number phase machine [] shown = []
+groups_text page_size number phase machine (path ∷ paths) [] = []
+groups_text page_size number phase machine (path ∷ paths) (one ∷ shown) = look_text page_size number phase machine path one.stat one.look ++ groups_text page_size number phase machine paths shown
 
 -- no other step of this line of the script follows
 abbrev pub is_last : ℕ → List ℕ → Bool
@@ -90,11 +90,11 @@ phase_of phases number = slice_index_or phases (number - 1) []
 
 -- the lines behind all steps: for each line of the script those of its last step. (Excludes a table that leaves a line out, has one twice, or has the numbers
 -- or the phase of another step.)
-abbrev pub steps_text : List ℕ → List (List ℕ) → List (List ℕ) → List Seen → List ℕ
-steps_text [] phases paths rows = []
-steps_text (number ∷ numbers) phases paths [] = []
-steps_text (number ∷ numbers) phases paths (row ∷ rows) =
-    (if is_last number numbers then groups_text number (phase_of phases number) row.machine paths row.groups else []) ++ steps_text numbers phases paths rows
+abbrev pub steps_text : ℕ → List ℕ → List (List ℕ) → List (List ℕ) → List Seen → List ℕ
+steps_text page_size [] phases paths rows = []
+steps_text page_size (number ∷ numbers) phases paths [] = []
+steps_text page_size (number ∷ numbers) phases paths (row ∷ rows) =
+    (if is_last number numbers then groups_text page_size number (phase_of phases number) row.machine paths row.groups else []) ++ steps_text page_size numbers phases paths rows
 
-abbrev pub table_text : List ℕ → List (List ℕ) → List (List ℕ) → List Seen → List ℕ
-table_text numbers phases paths rows = head ++ steps_text numbers phases paths rows
+abbrev pub table_text : ℕ → List ℕ → List (List ℕ) → List (List ℕ) → List Seen → List ℕ
+table_text page_size numbers phases paths rows = head ++ steps_text page_size numbers phases paths rows

@@ -8,8 +8,8 @@ ghost use Rattle.charts.specs.Listed.{cell, amount_text, charges_text, settings_
 use crate::watching::{Machine, Row, Shown, Watched};
 use book::GroupLook;
 use machine::amount::Amount;
+use machine::page_size::PageSize;
 use machine::record::{EventCounts, MemoryStat};
-use pictures::bytes_of;
 use std::alloc::{AllocError, Global};
 
 const HEAD: &[u8] =
@@ -22,16 +22,17 @@ struct Common<'t> {
     /// The name of the phase.
     phase: &'t [u8],
     machine: Machine,
+    page_size: PageSize,
 }
 
 /// A setting in bytes, or `max`.
-fn amount_text(alloc: Global, amount: Amount) -> Result<String, AllocError>
-    ensures { IfOk result (λ s. string_bytes s ≡ amount_text amount) }
+fn amount_text(alloc: Global, page_size: PageSize, amount: Amount) -> Result<String, AllocError>
+    ensures { IfOk result (λ s. string_bytes s ≡ amount_text page_size.bytes amount) }
 {
     match amount {
         Amount::Max => String::from_str(alloc, "max"),
         Amount::Pages(pages) => {
-            let bytes = bytes_of(pages);
+            let bytes = page_size.bytes_of(pages);
             format!(in alloc; "{bytes}")
         }
     }
@@ -54,10 +55,15 @@ fn add_number(alloc: Global, text: &mut Vec<u8>, number: u128) -> Result<(), All
 }
 
 /// Adds the cell of a setting.
-fn add_amount(alloc: Global, text: &mut Vec<u8>, amount: Amount) -> Result<(), AllocError>
-    ensures { OnOk result (text.new.items ≡ text.old.items ++ cell (amount_text amount)) }
+fn add_amount(
+    alloc: Global,
+    text: &mut Vec<u8>,
+    page_size: PageSize,
+    amount: Amount,
+) -> Result<(), AllocError>
+    ensures { OnOk result (text.new.items ≡ text.old.items ++ cell (amount_text page_size.bytes amount)) }
 {
-    let digits = amount_text(alloc, amount)?;
+    let digits = amount_text(alloc, page_size, amount)?;
     add_cell(text, digits.as_bytes())
 }
 
@@ -74,32 +80,43 @@ fn add_counts(alloc: Global, text: &mut Vec<u8>, counts: EventCounts) -> Result<
 fn add_charges(
     alloc: Global,
     text: &mut Vec<u8>,
+    page_size: PageSize,
     usage: u64,
     stat: MemoryStat,
 ) -> Result<(), AllocError>
-    ensures { OnOk result (text.new.items ≡ text.old.items ++ charges_text usage stat) }
+    ensures { OnOk result (text.new.items ≡ text.old.items ++ charges_text page_size.bytes usage stat) }
 {
-    add_number(alloc, text, bytes_of(usage))?;
-    add_number(alloc, text, bytes_of(stat.anon))?;
-    add_number(alloc, text, bytes_of(stat.file))
+    add_number(alloc, text, page_size.bytes_of(usage))?;
+    add_number(alloc, text, page_size.bytes_of(stat.anon))?;
+    add_number(alloc, text, page_size.bytes_of(stat.file))
 }
 
 /// Adds the cells of its settings.
-fn add_settings(alloc: Global, text: &mut Vec<u8>, look: GroupLook) -> Result<(), AllocError>
-    ensures { OnOk result (text.new.items ≡ text.old.items ++ settings_text look) }
+fn add_settings(
+    alloc: Global,
+    text: &mut Vec<u8>,
+    page_size: PageSize,
+    look: GroupLook,
+) -> Result<(), AllocError>
+    ensures { OnOk result (text.new.items ≡ text.old.items ++ settings_text page_size.bytes look) }
 {
-    add_amount(alloc, text, look.max)?;
-    add_amount(alloc, text, look.min)?;
-    add_amount(alloc, text, look.low)
+    add_amount(alloc, text, page_size, look.max)?;
+    add_amount(alloc, text, page_size, look.min)?;
+    add_amount(alloc, text, page_size, look.low)
 }
 
 /// Adds the cells of the machine.
-fn add_machine(alloc: Global, text: &mut Vec<u8>, machine: Machine) -> Result<(), AllocError>
-    ensures { OnOk result (text.new.items ≡ text.old.items ++ machine_text machine) }
+fn add_machine(
+    alloc: Global,
+    text: &mut Vec<u8>,
+    page_size: PageSize,
+    machine: Machine,
+) -> Result<(), AllocError>
+    ensures { OnOk result (text.new.items ≡ text.old.items ++ machine_text page_size.bytes machine) }
 {
-    add_number(alloc, text, bytes_of(machine.used))?;
-    add_number(alloc, text, bytes_of(machine.free))?;
-    add_number(alloc, text, bytes_of(machine.swap))
+    add_number(alloc, text, page_size.bytes_of(machine.used))?;
+    add_number(alloc, text, page_size.bytes_of(machine.free))?;
+    add_number(alloc, text, page_size.bytes_of(machine.swap))
 }
 
 /// Whether a text with this byte has to be in quotes.
@@ -160,17 +177,18 @@ fn add_phase(text: &mut Vec<u8>, phase: &[u8]) -> Result<(), AllocError>
 fn add_cells(
     alloc: Global,
     text: &mut Vec<u8>,
+    page_size: PageSize,
     line: usize,
     path: &str,
     look: GroupLook,
     stat: MemoryStat,
 ) -> Result<(), AllocError>
-    ensures { OnOk result (text.new.items ≡ text.old.items ++ cells_text line path.now look stat) }
+    ensures { OnOk result (text.new.items ≡ text.old.items ++ cells_text page_size.bytes line path.now look stat) }
 {
     add_number(alloc, text, line as u128)?;
     add_cell(text, path.as_bytes())?;
-    add_charges(alloc, text, look.usage, stat)?;
-    add_settings(alloc, text, look)?;
+    add_charges(alloc, text, page_size, look.usage, stat)?;
+    add_settings(alloc, text, page_size, look)?;
     add_counts(alloc, text, look.local)
 }
 
@@ -183,10 +201,10 @@ fn add_look(
     look: GroupLook,
     stat: MemoryStat,
 ) -> Result<(), AllocError>
-    ensures { OnOk result (text.new.items ≡ text.old.items ++ line_text common.entry.line common.entry.phase.now common.entry.machine path.now look stat) }
+    ensures { OnOk result (text.new.items ≡ text.old.items ++ line_text common.entry.page_size.bytes common.entry.line common.entry.phase.now common.entry.machine path.now look stat) }
 {
-    add_cells(alloc, text, common.line, path, look, stat)?;
-    add_machine(alloc, text, common.machine)?;
+    add_cells(alloc, text, common.page_size, common.line, path, look, stat)?;
+    add_machine(alloc, text, common.page_size, common.machine)?;
     add_phase(text, common.phase)
 }
 
@@ -208,7 +226,7 @@ fn add_line(
     path: &str,
     shown: &Shown,
 ) -> Result<(), AllocError>
-    ensures { OnOk result (text.new.items ≡ text.old.items ++ look_text common.entry.line common.entry.phase.now common.entry.machine path.now shown.now.stat shown.now.look) }
+    ensures { OnOk result (text.new.items ≡ text.old.items ++ look_text common.entry.page_size.bytes common.entry.line common.entry.phase.now common.entry.machine path.now shown.now.stat shown.now.look) }
 {
     match shown.look {
         None => Ok(()),
@@ -224,7 +242,7 @@ fn add_groups(
     paths: &[&str],
     groups: &[Shown],
 ) -> Result<(), AllocError>
-    ensures { OnOk result (text.new.items ≡ text.old.items ++ groups_text common.entry.line common.entry.phase.now common.entry.machine (map (λ p. p.now) paths.now) groups.now) }
+    ensures { OnOk result (text.new.items ≡ text.old.items ++ groups_text common.entry.page_size.bytes common.entry.line common.entry.phase.now common.entry.machine (map (λ p. p.now) paths.now) groups.now) }
 {
     for at in 0..paths.len() {
         if at >= groups.len() {
@@ -261,6 +279,7 @@ fn phase_of<'t>(phases: &[&'t [u8]], line: usize) -> &'t [u8]
 fn add_row(
     alloc: Global,
     text: &mut Vec<u8>,
+    page_size: PageSize,
     lines: &[usize],
     phases: &[&[u8]],
     paths: &[&str],
@@ -268,8 +287,8 @@ fn add_row(
     step: usize,
 ) -> Result<usize, AllocError>
     ensures { IfOk result (λ next. (rest : List Seen) →
-        text.old.items ++ steps_text (drop step lines.now) (map (λ p. p.now) phases.now) (map (λ p. p.now) paths.now) (replicate row.now.steps (seen_of row.now) ++ rest)
-        ≡ text.new.items ++ steps_text (drop next lines.now) (map (λ p. p.now) phases.now) (map (λ p. p.now) paths.now) rest) }
+        text.old.items ++ steps_text page_size.bytes (drop step lines.now) (map (λ p. p.now) phases.now) (map (λ p. p.now) paths.now) (replicate row.now.steps (seen_of row.now) ++ rest)
+        ≡ text.new.items ++ steps_text page_size.bytes (drop next lines.now) (map (λ p. p.now) phases.now) (map (λ p. p.now) paths.now) rest) }
 {
     let mut next = step;
     for _left in 0..row.steps {
@@ -282,6 +301,7 @@ fn add_row(
                 line,
                 phase: phase_of(phases, line),
                 machine: row.machine,
+                page_size,
             };
             add_groups(alloc, text, common, paths, &row.groups)?;
         }
@@ -293,36 +313,40 @@ fn add_row(
 /// The table of these rows.
 fn table_of(
     alloc: Global,
+    page_size: PageSize,
     lines: &[usize],
     phases: &[&[u8]],
     paths: &[&str],
     rows: &[Row],
 ) -> Result<Vec<u8>, AllocError>
-    ensures { IfOk result (λ text. text.items ≡ table_text lines.now (map (λ p. p.now) phases.now) (map (λ p. p.now) paths.now) (expanded rows.now)) }
+    ensures { IfOk result (λ text. text.items ≡ table_text page_size.bytes lines.now (map (λ p. p.now) phases.now) (map (λ p. p.now) paths.now) (expanded rows.now)) }
 {
     let mut text = Vec::from_slice(alloc, HEAD)?;
     let mut step = 0;
     for at in 0..rows.len() {
-        step = add_row(alloc, &mut text, lines, phases, paths, &rows[at], step)?;
+        step = add_row(
+            alloc, &mut text, page_size, lines, phases, paths, &rows[at], step,
+        )?;
     }
     Ok(text)
 }
 
 /// The table of what was watched (comma-separated values), with a head. `lines` has for each step the number of its
 /// line of the script, and `phases` for each line of the script the name of its phase. If a line has several steps, the
-/// last counts. A group that does not exist has no line. Amounts are bytes.
+/// last counts. A group that does not exist has no line. Amounts are bytes, of pages of this size.
 ///
 /// `refused`, `oom` and `oom_kill` are what was counted at the group itself so far. They count charges that were
 /// refused at its max; reliefs that killed, or found no task to kill; and tasks of it that were killed. `used`, `free`
 /// and `swap` are of the whole machine: frames with and without a page, and swap blocks with one.
 pub fn table(
     alloc: Global,
+    page_size: PageSize,
     lines: &[usize],
     phases: &[&[u8]],
     paths: &[&str],
     watched: &Watched<'_>,
 ) -> Result<Vec<u8>, AllocError>
-    ensures { IfOk result (λ text. text.items ≡ table_text lines.now (map (λ p. p.now) phases.now) (map (λ p. p.now) paths.now) (expanded watched.now.rows.items)) }
+    ensures { IfOk result (λ text. text.items ≡ table_text page_size.bytes lines.now (map (λ p. p.now) phases.now) (map (λ p. p.now) paths.now) (expanded watched.now.rows.items)) }
 {
-    table_of(alloc, lines, phases, paths, &watched.rows)
+    table_of(alloc, page_size, lines, phases, paths, &watched.rows)
 }

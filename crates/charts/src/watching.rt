@@ -16,6 +16,7 @@ use driver::{Closed, Config, FailedCall, Reply, Sink, Steps, Stop, run_into};
 use machine::config::Watermarks;
 use machine::event::Cause;
 use machine::id::TaskId;
+use machine::page_size::PageSize;
 use machine::record::MemoryStat;
 use machine::refusal::Refusal;
 use std::alloc::{AllocError, Global};
@@ -55,6 +56,8 @@ pub struct Sizes {
     pub swap: u32,
     pub watermarks: Watermarks,
     pub has_files: bool,
+    /// How many bytes a page stands for.
+    pub page_size: PageSize,
 }
 
 impl Sizes {
@@ -68,6 +71,7 @@ impl Sizes {
             swap: config.swap,
             watermarks: config.watermarks,
             has_files: !config.files.as_slice().is_empty(),
+            page_size: config.page_size,
         }
     }
 }

@@ -130,7 +130,7 @@ const SCHEDULE: &[Row] = &[
         name: PAGES,
         value: Value::Absent,
         beside: Beside::Without(&[HUMAN]),
-        help: "Print amounts of memory in pages of 4,096 bytes",
+        help: "Print amounts of memory in pages",
     },
     Row {
         name: PROGRESS,

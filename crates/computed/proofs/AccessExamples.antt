@@ -1,5 +1,6 @@
 -- Examples: page tables, what an access meets, and which group has no room for it.
 use Rattle.std.proofs.Common.{◌≡◌, true, false, [], ◌∷◌, Some, None, refl}
+use Rattle.machine.specs.declared.config.Placement.TheVariants.{Own}
 use Rattle.machine.specs.declared.event.Op.TheVariants.{Read, Write}
 use Rattle.machine.specs.declared.event.Place.TheVariants.{Virtual}
 use Rattle.machine.specs.Tree.{chain_up, chain, under_at}
@@ -122,11 +123,11 @@ dangles = refl
 -- ---- charges
 
 -- a copy is charged to the group of the task that writes, and not to that of the page
-charges-copy : charges (meets busy 2 (Virtual 0 0) (Write 7)) 3 ≡ Some 3
+charges-copy : charges Own (meets busy 2 (Virtual 0 0) (Write 7)) 3 ≡ Some 3
 charges-copy = refl
 
 -- a page that is read in is charged to its own group again, also for a task of another
-charges-swap_in : charges (meets busy 2 (Virtual 3 0) Read) 5 ≡ Some 3
+charges-swap_in : charges Own (meets busy 2 (Virtual 3 0) Read) 5 ≡ Some 3
 charges-swap_in = refl
 
 -- both /p/a and /p are full: the lowest says so

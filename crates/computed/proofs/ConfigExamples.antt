@@ -6,6 +6,7 @@ use Rattle.machine.specs.declared.config.Config.{Config}
 use Rattle.machine.specs.declared.config.File.{File}
 use Rattle.machine.specs.declared.config.Placement.TheVariants.{Own}
 use Rattle.machine.specs.State.{opening_of, blocks_of, are_apart, are_files, is_config}
+use Rattle.machine.specs.PageSizes.{of_4k}
 
 -- a file of this name, with so many pages
 abbrev named : List ℕ → ℕ → File
@@ -13,7 +14,7 @@ named name pages = record { name = name; pages = pages }
 
 -- 6 frames, 4 swap blocks, and these files
 abbrev sized : ℕ → List File → Config
-sized swap files = record { frames = 6; swap = swap; files = files; watermarks = record { low = 1; high = 2 }; trace = 8; turns = 3; recursive = false; placement = Own }
+sized swap files = record { frames = 6; swap = swap; files = files; watermarks = record { low = 1; high = 2 }; trace = 8; turns = 3; recursive = false; placement = Own; page_size = of_4k }
 
 -- the opening has the files' sizes, in their order
 opening-sizes : (opening_of (sized 4 (named (codes "a") 3 ∷ named (codes "b") 2 ∷ []))).files ≡ 3 ∷ 2 ∷ []

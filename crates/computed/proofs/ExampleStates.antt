@@ -87,7 +87,7 @@ tables = [] ∷ (shows 0 ∷ shows 1 ∷ shows 2 ∷ []) ∷ (shows 0 ∷ None �
 
 -- 4 of 6 frames are used, and 3 of 4 swap blocks
 abbrev pub opening : Opening
-opening = record { frames = 6; swap = 4; files = []; watermarks = record { low = 0; high = 0 }; trace_limit = 8; recursive = false; placement = Own }
+opening = record { frames = 6; swap = 4; files = []; watermarks = record { low = 0; high = 0 }; trace_limit = 8; recursive = false; placement = Own; page_size = 4096 }
 
 -- /p has 4 pages and a max of 4, and /p/a has 3 of these and a max of 3: both are full, and /p/b, which has 1, is not
 abbrev pub busy : State

@@ -1,5 +1,6 @@
 -- Examples: pages of files, which tasks of all groups share: what an access of one meets, who is charged for it, where it goes, and what is shown of it.
 use Rattle.std.proofs.Common.{◌≡◌, ℕ, zero, suc, Bool, true, false, [], ◌∷◌, Option, Some, None, refl, ap, ◌∙◌, arith}
+use Rattle.machine.specs.declared.config.Placement.TheVariants.{Own}
 use Rattle.machine.specs.declared.event.Op.{Op}
 use Rattle.machine.specs.declared.event.Op.TheVariants.{Read, Write}
 use Rattle.machine.specs.declared.event.Place.TheVariants.{File}
@@ -160,11 +161,11 @@ dangles = refl
 -- ---- charges
 
 -- who reads it in pays for it
-charges-reader : charges (meets caching 2 (File 0 0 5) Read) 3 ≡ Some 3
+charges-reader : charges Own (meets caching 2 (File 0 0 5) Read) 3 ≡ Some 3
 charges-reader = refl
 
 -- and who hits it pays nothing
-charges-hit : charges (meets caching 2 (File 0 1 5) Read) 3 ≡ None
+charges-hit : charges Own (meets caching 2 (File 0 1 5) Read) 3 ≡ None
 charges-hit = refl
 
 -- it is a transfer that begins, and so needs two entries

@@ -88,7 +88,7 @@ h14 = on 0 h13 (access 2 Read) (reply.Done 9 (Some (frame 2)))
 
 -- 4 frames and no swap block. File 0 has 1 page, and file 1 has 2: the home of its page 1 is block 2
 abbrev fixed : Opening
-fixed = record { frames = 4; swap = 0; files = 1 ∷ 2 ∷ []; watermarks = record { low = 0; high = 0 }; trace_limit = 14; recursive = false; placement = Own }
+fixed = record { frames = 4; swap = 0; files = 1 ∷ 2 ∷ []; watermarks = record { low = 0; high = 0 }; trace_limit = 14; recursive = false; placement = Own; page_size = 4096 }
 
 abbrev with_a : State
 with_a = record (first_state fixed) { tree = root ∷ below 0 (codes "/a") ∷ []; limits = no_limits ∷ no_limits ∷ []; flags = single 2; counted = no_counts ∷ no_counts ∷ [] }

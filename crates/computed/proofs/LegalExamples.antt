@@ -62,7 +62,7 @@ h7 = entry 0 5 (access Read) (reply.Done 5 (Some (frame 2))) ∷ h6
 
 -- 4 frames, 5 swap blocks, and room for so many entries
 abbrev pub small : ℕ → Opening
-small limit = record { frames = 4; swap = 5; files = []; watermarks = record { low = 0; high = 0 }; trace_limit = limit; recursive = false; placement = Own }
+small limit = record { frames = 4; swap = 5; files = []; watermarks = record { low = 0; high = 0 }; trace_limit = limit; recursive = false; placement = Own; page_size = 4096 }
 
 -- task 1 runs in the root
 abbrev pub spawned : ℕ → State

@@ -22,6 +22,7 @@ mod OomGroupHistoryExamples
 mod SharingExamples
 mod SharedHistoryExamples
 mod RemovalExamples
+mod SwappedExamples
 mod RemovalHistoryExamples
 mod ConfigExamples
 mod ControlExamples

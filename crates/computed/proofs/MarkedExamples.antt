@@ -33,7 +33,7 @@ use Rattle.computed.proofs.CallExamples.{caller, past, after, not_new, other_num
 
 -- 4 frames, and 4 swap blocks
 abbrev small : Opening
-small = record { frames = 4; swap = 4; files = []; watermarks = record { low = 0; high = 0 }; trace_limit = 40; recursive = false; placement = Own }
+small = record { frames = 4; swap = 4; files = []; watermarks = record { low = 0; high = 0 }; trace_limit = 40; recursive = false; placement = Own; page_size = 4096 }
 
 -- task 1 of group 1, which has a max of 3, shows these pages
 abbrev state : List (Option Page) → PageTable → State

@@ -252,10 +252,10 @@ file-not_root : has_file 0 file.OomGroup ≡ false
 file-not_root = refl
 
 -- a digit, and the line's end
-says-whole : text_of (shown.Flag Whole) ≡ codes "1" ++ 10 ∷ []
+says-whole : text_of 4096 (shown.Flag Whole) ≡ codes "1" ++ 10 ∷ []
 says-whole = refl
 
-says-single : text_of (shown.Flag Single) ≡ codes "0" ++ 10 ∷ []
+says-single : text_of 4096 (shown.Flag Single) ≡ codes "0" ++ 10 ∷ []
 says-single = refl
 
 -- the same two digits are read

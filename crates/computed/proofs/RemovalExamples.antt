@@ -1,6 +1,7 @@
 -- Examples: groups that are removed, what becomes of their pages and lists, and later groups of their paths. What does not come of a removal is shown not to.
 use Rattle.std.proofs.Common.{◌≡◌, ◌≢◌, ℕ, zero, suc, ◌<◌, ◌==◌, ◌&&◌, ◌++◌, Bool, true, false, List, [], ◌∷◌, length, Option, Some, None, refl, sym, ap, ◌∙◌, arith}
 use Rattle.std.specs.Prelude.{codes, option_map}
+use Rattle.machine.specs.declared.config.Placement.TheVariants.{Own}
 use Rattle.machine.specs.declared.event.Goal.TheVariants.{Amount}
 use Rattle.machine.specs.declared.event.Cause.TheVariants as cause
 use Rattle.machine.specs.declared.event.Op.TheVariants.{Read}
@@ -35,7 +36,7 @@ use Rattle.machine.specs.Aging.{is_marked}
 use Rattle.machine.specs.Lists.{Order, served, is_fresh, Orders, SecondYoungest}
 use Rattle.machine.specs.Call.{Past, is_full_for, Called, grows}
 use Rattle.machine.proofs.Values.{some_inj, never_some, unlike}
-use Rattle.machine.proofs.RemovedLemmas.{usage-removed}
+use Rattle.page_lists.proofs.RegroupedLemmas.{usage-removed}
 use Rattle.computed.proofs.ExampleStates.{group, task, ticket, shows, below, tree, memory, of_file, max_of, single, opening, busy, listed_at, young, searched, by_turns, none_served}
 use Rattle.computed.proofs.HeldExamples.{page_standing, unlike_number, unlike_mark, unlike_cursor, set_is_not_clear}
 use Rattle.computed.proofs.CallExamples.{caller, past, after, not_new, other_number, stay_unmarked, stay_unhit}
@@ -135,7 +136,7 @@ removed = record left { tree = removed_tree; pages = removed_pages }
 removes : Step left (rmdir 3) reply.Ok removed
 removes = record { parent = 1; below = refl; pages = pages; state = refl }
   where
-    pages : (p : ℕ) → page_at removed_pages p ≡ option_map (regrouped 3 1) (page_at left_pages p)
+    pages : (p : ℕ) → page_at removed_pages p ≡ option_map (regrouped Own 3 1) (page_at left_pages p)
     pages zero = refl
     pages (suc zero) = refl
     pages (suc (suc zero)) = refl
@@ -149,7 +150,7 @@ removes = record { parent = 1; below = refl; pages = pages; state = refl }
     pages (suc (suc (suc (suc (suc (suc (suc (suc (suc (suc p)))))))))) = refl
 
 -- a page keeps all else: a file's page that was written to is still to be written out
-removes-dirty : regrouped 3 1 (of_file 3 true (Held 1)) ≡ of_file 1 true (Held 1)
+removes-dirty : regrouped Own 3 1 (of_file 3 true (Held 1)) ≡ of_file 1 true (Held 1)
 removes-dirty = refl
 
 -- ---- whatever comes after a removal
@@ -160,8 +161,8 @@ of_group None = 99
 of_group (Some page) = page.group
 
 -- each page is what it was, and of the parent where it was of the group
-becomes : (p : ℕ) (new : State) → Step left (rmdir 3) reply.Ok new → page_at new.pages p ≡ option_map (regrouped 3 1) (page_at left_pages p)
-becomes p new step = step.pages p ∙ ap (λ (parent : ℕ). option_map (regrouped 3 parent) (page_at left_pages p)) (some_inj (sym step.below))
+becomes : (p : ℕ) (new : State) → Step left (rmdir 3) reply.Ok new → page_at new.pages p ≡ option_map (regrouped Own 3 1) (page_at left_pages p)
+becomes p new step = step.pages p ∙ ap (λ (parent : ℕ). option_map (regrouped Own 3 parent) (page_at left_pages p)) (some_inj (sym step.below))
 
 -- no page is given back to the pool: not one that is held
 removes-held_stays : (new : State) → page_at new.pages 1 ≡ None → Step left (rmdir 3) reply.Ok new → ⊥
@@ -175,7 +176,7 @@ removes-away_stays new gone step = never_some (page_at new.pages 4) gone (become
 abbrev NotOf : ℕ → ℕ → Type 0
 NotOf p g = (new : State) → of_group (page_at new.pages p) ≡ g → Step left (rmdir 3) reply.Ok new → ⊥
 
-parents-alone : (p g : ℕ) → of_group (option_map (regrouped 3 1) (page_at left_pages p)) ≡ 1 → g ≢ 1 → NotOf p g
+parents-alone : (p g : ℕ) → of_group (option_map (regrouped Own 3 1) (page_at left_pages p)) ≡ 1 → g ≢ 1 → NotOf p g
 parents-alone p g parents other new is step = other (sym is ∙ ap of_group (becomes p new step) ∙ parents)
 
 -- no page is left behind: none that is held
@@ -298,7 +299,7 @@ owns-after : own removed 1 ≡ 8
 owns-after = refl
 
 -- so that a page that is read in from its block is charged to /p, where that is full, and not to the group of the task that wants it
-reads_in-charges : charges (meets removed 2 (Virtual 4 0) Read) 5 ≡ Some 1
+reads_in-charges : charges Own (meets removed 2 (Virtual 4 0) Read) 5 ≡ Some 1
 reads_in-charges = refl
 
 reads_in-over : (answer : Reply) (new : State) → Step (record removed { opening = record opening { frames = 10 } }) (event.Access (task 2) (Virtual 4 0) Read) answer new → answer ≡ reply.Over (group 1)
@@ -608,7 +609,7 @@ rooted = record alone {
 roots : Step alone (rmdir 1) reply.Ok rooted
 roots = record { parent = 0; below = refl; pages = pages; state = refl }
   where
-    pages : (p : ℕ) → page_at rooted.pages p ≡ option_map (regrouped 1 0) (page_at alone.pages p)
+    pages : (p : ℕ) → page_at rooted.pages p ≡ option_map (regrouped Own 1 0) (page_at alone.pages p)
     pages zero = refl
     pages (suc zero) = refl
     pages (suc (suc p)) = refl

@@ -1,6 +1,7 @@
 -- An example of a whole history: a group is removed while a page of it is written out, a later group has its path, and the page comes back.
 use Rattle.std.proofs.Common.{◌≡◌, ◌≢◌, ℕ, zero, suc, ◌+◌, ◌<◌, ◌==◌, ◌&&◌, true, false, List, [], ◌∷◌, length, Some, None, refl, ne_eqb, arith}
 use Rattle.std.specs.Prelude.{codes, option_map, slice_index, map}
+use Rattle.machine.specs.declared.config.Placement.TheVariants.{Own}
 use Rattle.machine.specs.declared.event.Op.TheVariants.{Read, Write}
 use Rattle.machine.specs.declared.event.Event.{Event}
 use Rattle.machine.specs.declared.event.Event.TheVariants as event
@@ -197,7 +198,7 @@ attaches = record { kept = refl; known = refl; unrefused = refl; room = refl; st
 removes : Extends (before 0 going) h5 (entry 0 5 (event.Rmdir (group 1)) reply.Ok) (between going)
 removes = record { kept = refl; known = refl; unrefused = refl; room = refl; steps = record { parent = 0; below = refl; pages = pages; state = refl } }
   where
-    pages : (p : ℕ) → page_at (between going).pages p ≡ option_map (regrouped 1 0) (page_at (before 0 going).pages p)
+    pages : (p : ℕ) → page_at (between going).pages p ≡ option_map (regrouped Own 1 0) (page_at (before 0 going).pages p)
     pages zero = refl
     pages (suc zero) = refl
     pages (suc (suc p)) = refl
@@ -260,7 +261,7 @@ reads = record { kept = refl; known = refl; unrefused = refl; room = refl; steps
 removes_again : Extends (again back) h11 (entry 0 10 (event.Rmdir (group 2)) reply.Ok) ended
 removes_again = record { kept = refl; known = refl; unrefused = refl; room = refl; steps = record { parent = 0; below = refl; pages = pages; state = refl } }
   where
-    pages : (p : ℕ) → page_at ended.pages p ≡ option_map (regrouped 2 0) (page_at (again back).pages p)
+    pages : (p : ℕ) → page_at ended.pages p ≡ option_map (regrouped Own 2 0) (page_at (again back).pages p)
     pages zero = refl
     pages (suc zero) = refl
     pages (suc (suc p)) = refl

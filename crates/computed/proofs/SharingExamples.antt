@@ -1,6 +1,7 @@
 -- Examples: tasks that fork, free and move, pages that several tasks show, and copies on write. What does not come of an event is shown not to.
 use Rattle.std.proofs.Common.{◌≡◌, ◌≢◌, ℕ, zero, suc, ◌==◌, ◌&&◌, ◌++◌, not, true, false, if◌then◌else◌, [], ◌∷◌, Option, Some, None, refl, sym, ap, ◌∙◌, ne_eqb, arith}
 use Rattle.std.specs.Prelude.{codes, replicate}
+use Rattle.machine.specs.declared.config.Placement.TheVariants.{Own}
 use Rattle.machine.specs.declared.event.Op.TheVariants.{Read, Write}
 use Rattle.machine.specs.declared.event.Place.TheVariants.{Virtual}
 use Rattle.machine.specs.declared.event.Event.{Event}
@@ -476,7 +477,7 @@ unfolding chain_up chain under_at
 attaches-not_charged new step = ap (λ (s : State). usage s 5) step.1
 
 -- a page of the task's that is on its block is charged to the old group again when it is read in
-attaches-reads_in : charges (meets moved 2 (Virtual 3 0) Read) 5 ≡ Some 3
+attaches-reads_in : charges Own (meets moved 2 (Virtual 3 0) Read) 5 ≡ Some 3
 attaches-reads_in = refl
 
 -- but a child is in the group where the parent is now

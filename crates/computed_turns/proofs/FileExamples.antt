@@ -58,7 +58,7 @@ abbrev cached : Residence → Page
 cached residence = record { content = OfFile 0 0; group = 1; dirty = false; residence = residence }
 
 abbrev opening : Opening
-opening = record { frames = 2; swap = 0; files = 1 ∷ []; watermarks = record { low = 0; high = 0 }; trace_limit = 8; recursive = false; placement = Own }
+opening = record { frames = 2; swap = 0; files = 1 ∷ []; watermarks = record { low = 0; high = 0 }; trace_limit = 8; recursive = false; placement = Own; page_size = 4096 }
 
 -- 2 frames, no swap, and one file of one page, whose home is the device's first block; task 1 is of /r
 abbrev with_pages : Pages → State
@@ -289,15 +289,15 @@ module _ (bytes : List ℕ) where
 -- ---- a page that is dropped
 
 -- nothing has to be written, and the access is tried again
-drops-for_access : Told (pending.MakeRoom access (cause.Charge r)) says.Dropped (transition.Goes (stage.Try access))
+drops-for_access : Told 4096 (pending.MakeRoom access (cause.Charge r)) says.Dropped (transition.Goes (stage.Try access))
 drops-for_access = refl
 
 -- a max that is lowered goes on
-drops-for_max : Told (pending.Lower r) says.Dropped (transition.Goes (stage.Lower r))
+drops-for_max : Told 4096 (pending.Lower r) says.Dropped (transition.Goes (stage.Lower r))
 drops-for_max = refl
 
 -- and so does the daemon
-drops-for_daemon : Told pending.Balance says.Dropped (transition.Goes stage.Balance)
+drops-for_daemon : Told 4096 pending.Balance says.Dropped (transition.Goes stage.Balance)
 drops-for_daemon = refl
 
 -- lists of files' pages of /r, whose oldest generation is the second before the youngest
@@ -422,35 +422,35 @@ makes_room = record {
 reclaims-two : (marks : Watermarks) → wants marks 0 (stage.Reclaim r 2) ≡ want.Call (pending.Reclaim r 2) (asks.ReclaimOne r)
 reclaims-two marks = refl
 
-drops-for_reclaim : Told (pending.Reclaim r 2) says.Dropped (transition.Goes (stage.Reclaim r 1))
+drops-for_reclaim : Told 4096 (pending.Reclaim r 2) says.Dropped (transition.Goes (stage.Reclaim r 1))
 drops-for_reclaim = refl
 
 -- with the second the reclaim is done
-drops-last : Told (pending.Reclaim r 1) says.Dropped (transition.Goes (stage.Reclaim r 0))
+drops-last : Told 4096 (pending.Reclaim r 1) says.Dropped (transition.Goes (stage.Reclaim r 0))
 drops-last = refl
 
 ends-well : (marks : Watermarks) → wants marks 0 (stage.Reclaim r 0) ≡ want.End answer.Done
 ends-well marks = refl
 
 -- and no third page is taken
-drops-not_more : Told (pending.Reclaim r 2) says.Dropped (transition.Goes (stage.Reclaim r 2)) → ⊥
+drops-not_more : Told 4096 (pending.Reclaim r 2) says.Dropped (transition.Goes (stage.Reclaim r 2)) → ⊥
 drops-not_more e = cc
 
 -- ---- a page that is in transfer
 
 -- the access that met it is tried again once a transfer has ended
-waits-for_page : Told (pending.Try access) says.Busy (transition.Waits (resume.Try access))
+waits-for_page : Told 4096 (pending.Try access) says.Busy (transition.Waits (resume.Try access))
 waits-for_page = refl
 
 -- one that wants room wants it again, and for the same cause
-waits-for_room : Told (pending.MakeRoom access (cause.Charge r)) says.Wait (transition.Waits (resume.MakeRoom access (cause.Charge r)))
+waits-for_room : Told 4096 (pending.MakeRoom access (cause.Charge r)) says.Wait (transition.Waits (resume.MakeRoom access (cause.Charge r)))
 waits-for_room = refl
 
 wants_room-again : resumes_at (resume.MakeRoom access (cause.Charge r)) ≡ stage.MakeRoom access (cause.Charge r)
 wants_room-again = refl
 
 -- a reclaim of two pages wants two again
-waits-for_reclaim : Told (pending.Reclaim r 2) says.Wait (transition.Waits (resume.Reclaim r 2))
+waits-for_reclaim : Told 4096 (pending.Reclaim r 2) says.Wait (transition.Waits (resume.Reclaim r 2))
 waits-for_reclaim = refl
 
 -- in a schedule each of them is answered busy, and has ended

@@ -46,7 +46,7 @@ abbrev tables : PageTables
 tables = [] ∷ (Some (record { 0 = 0 }) ∷ Some (record { 0 = 1 }) ∷ []) ∷ []
 
 abbrev opening : Opening
-opening = record { frames = 2; swap = 1; files = []; watermarks = record { low = 0; high = 0 }; trace_limit = 8; recursive = false; placement = Own }
+opening = record { frames = 2; swap = 1; files = []; watermarks = record { low = 0; high = 0 }; trace_limit = 8; recursive = false; placement = Own; page_size = 4096 }
 
 -- task 1 is of the group h, and both pages are of the group g
 abbrev with_groups : List Node → ℕ → ℕ → State
@@ -94,7 +94,7 @@ rmdir = command.Rmdir (codes "/r")
 
 -- ---- a removal
 
-removed_pages : (p : ℕ) → page_at removed.pages p ≡ option_map (regrouped 1 0) (page_at left.pages p)
+removed_pages : (p : ℕ) → page_at removed.pages p ≡ option_map (regrouped Own 1 0) (page_at left.pages p)
 removed_pages zero = refl
 removed_pages (suc zero) = refl
 removed_pages (suc (suc p)) = refl

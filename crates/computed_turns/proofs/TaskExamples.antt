@@ -53,7 +53,7 @@ abbrev pub tree : List Node
 tree = root ∷ record { parent = Some 0; path = codes "/r"; live = true } ∷ []
 
 abbrev opening : Opening
-opening = record { frames = 2; swap = 1; files = []; watermarks = record { low = 0; high = 0 }; trace_limit = 8; recursive = false; placement = Own }
+opening = record { frames = 2; swap = 1; files = []; watermarks = record { low = 0; high = 0 }; trace_limit = 8; recursive = false; placement = Own; page_size = 4096 }
 
 abbrev with_tasks : Tasks → PageTables → State
 with_tasks tasks tables = record {

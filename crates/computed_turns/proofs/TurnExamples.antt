@@ -62,7 +62,7 @@ r = record { 0 = 1 }
 -- the root, and /r below it, which is group 1. Nobody has a page
 abbrev empty : State
 empty = record {
-  opening = record { frames = 2; swap = 0; files = []; watermarks = record { low = 0; high = 0 }; trace_limit = 8; recursive = false; placement = Own };
+  opening = record { frames = 2; swap = 0; files = []; watermarks = record { low = 0; high = 0 }; trace_limit = 8; recursive = false; placement = Own; page_size = 4096 };
   tree = root ∷ record { parent = Some 0; path = codes "/r"; live = true } ∷ [];
   limits = no_limits ∷ no_limits ∷ [];
   flags = Single ∷ Single ∷ [];

@@ -1,10 +1,12 @@
 //! Amounts of memory, as written to a control file.
 
 ghost use Rattle.std.specs.Prelude.{◌≡◌};
-ghost use Rattle.machine.specs.Control.{unit_of, last_unit, digits_part, is_plain, amount_of};
+ghost use Rattle.std.specs.Option.{option_map};
+ghost use Rattle.machine.specs.Control.{unit_of, last_unit, digits_part, is_plain, plain_amount, amount_of, page_size_of};
+ghost use Rattle.machine.specs.PageSizes.{page_of};
 
-use crate::PAGE_BYTES;
 use machine::amount::Amount;
+use machine::page_size::PageSize;
 use text_forms::number::{is_digits, long_number_of};
 
 /// The factor of a letter at the end of an amount, and 1 for any other character.
@@ -45,19 +47,34 @@ fn is_plain(digits: &str) -> bool
     digits.len() == 1 || digits.as_bytes()[0] > b'0'
 }
 
-/// The amount that a text writes: `max`, or a number of bytes with at most one of the suffixes K, M, G and T, rounded
-/// down to whole pages. `None` for any other text, and for 2^64 bytes and more.
-pub fn parse_amount(text: &str) -> Option<Amount>
-    ensures { result ≡ amount_of text.now }
+/// The bytes that a text writes with at most one of the suffixes K, M, G and T. `None` for any other text, and for 2^64
+/// bytes and more.
+fn parse_bytes(text: &str) -> Option<u64>
+    ensures { result ≡ plain_amount text.now }
 {
-    if text == "max" {
-        return Some(Amount::Max);
-    }
     let (digits, unit) = split_unit(text);
     if !is_plain(digits) {
         return None;
     }
     let number = long_number_of(digits)?;
-    let bytes = number.checked_mul(unit)?;
-    Some(Amount::Pages(bytes / PAGE_BYTES))
+    number.checked_mul(unit)
+}
+
+/// The amount that a text writes: `max`, or a number of bytes with at most one of the suffixes K, M, G and T, rounded
+/// down to whole pages of this size. `None` for any other text, and for 2^64 bytes and more.
+pub fn parse_amount(page_size: PageSize, text: &str) -> Option<Amount>
+    ensures { result ≡ amount_of page_size.bytes text.now }
+{
+    if text == "max" {
+        return Some(Amount::Max);
+    }
+    let bytes = parse_bytes(text)?;
+    Some(Amount::Pages(page_size.pages_in(bytes)))
+}
+
+/// The page size that a text writes, as [`parse_amount`] reads bytes. `None` if no page has this size.
+pub fn parse_page_size(text: &str) -> Option<PageSize>
+    ensures { result ≡ option_map page_of (page_size_of text.now) }
+{
+    PageSize::new(parse_bytes(text)?)
 }

@@ -3,10 +3,10 @@
 //!
 //! [`file_named`] and [`has_file`] say which file a name means and which groups have it. [`parse_amount`] and
 //! [`parse_flag`] read what is written to a file. [`show_text`] writes a file's text from its numbers. None of them
-//! knows a state of the machine.
+//! knows a state of the machine. [`parse_page_size`] reads how many bytes a page stands for in amounts and texts.
 #![tactic(auto)]
 
-pub use amounts::parse_amount;
+pub use amounts::{parse_amount, parse_page_size};
 pub use files::{file_named, has_file};
 pub use flags::parse_flag;
 pub use texts::show_text;
@@ -15,6 +15,3 @@ mod amounts;
 mod files;
 mod flags;
 mod texts;
-
-/// Bytes of a page.
-const PAGE_BYTES: u64 = machine::bytes::PAGE_BYTES as u64;

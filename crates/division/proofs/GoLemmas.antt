@@ -50,6 +50,7 @@ only_begun-go (item.Marks m) = refl
 only_begun-go (item.Trace n) = refl
 only_begun-go (item.Fails what n) = refl
 only_begun-go item.Recursive = refl
+only_begun-go (item.PageSize p) = refl
 only_begun-go (item.Begins who what) = refl
 only_begun-go (item.Advances who) = refl
 only_begun-go (item.Finishes who) = refl

@@ -83,6 +83,7 @@ next (item.Swap n) is number = let P : ℕ → Type 0 = λ w. NextAt (item.Swap 
 next (item.File f) is number = let P : ℕ → Type 0 = λ w. NextAt (item.File f) is number w in subst P (sym (none number is)) (idle (steps_of is), refl, refl)
 next (item.Marks m) is number = let P : ℕ → Type 0 = λ w. NextAt (item.Marks m) is number w in subst P (sym (none number is)) (idle (steps_of is), refl, refl)
 next (item.Trace n) is number = let P : ℕ → Type 0 = λ w. NextAt (item.Trace n) is number w in subst P (sym (none number is)) (idle (steps_of is), refl, refl)
+next (item.PageSize p) is number = let P : ℕ → Type 0 = λ w. NextAt (item.PageSize p) is number w in subst P (sym (none number is)) (idle (steps_of is), refl, refl)
 next (item.Fails what n) is number = let P : ℕ → Type 0 = λ w. NextAt (item.Fails what n) is number w in subst P (sym (none number is)) (idle (steps_of is), refl, refl)
 next item.Recursive is number = let P : ℕ → Type 0 = λ w. NextAt item.Recursive is number w in subst P (sym (none number is)) (idle (steps_of is), refl, refl)
 next item.EndsSetup is number = let P : ℕ → Type 0 = λ w. NextAt item.EndsSetup is number w in subst P (sym (none number is)) (refl, refl, refl)

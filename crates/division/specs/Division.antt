@@ -38,6 +38,7 @@ takes_apart (item.Marks m) = false
 takes_apart (item.Trace n) = false
 takes_apart (item.Fails what n) = false
 takes_apart item.Recursive = false
+takes_apart (item.PageSize p) = false
 takes_apart item.EndsSetup = false
 
 -- control does what the shell would do: a command of the shell can't be taken apart
@@ -68,6 +69,7 @@ left_by (item.Marks m) = None
 left_by (item.Trace n) = None
 left_by (item.Fails what n) = None
 left_by item.Recursive = None
+left_by (item.PageSize p) = None
 left_by item.EndsSetup = None
 
 -- the actors of the work, each once, by rising number: those with a command that the setup only begins, and those with a line in the work

@@ -80,6 +80,7 @@ said_of_item (item.Marks m) = said.Nothing
 said_of_item (item.Trace n) = said.Nothing
 said_of_item (item.Fails what n) = said.Nothing
 said_of_item item.Recursive = said.Nothing
+said_of_item (item.PageSize p) = said.Nothing
 
 -- lines that say this, none of them faulty, were read as this schedule
 pub record IsRead (is : List Item) (ls : List (List ℕ)) (schedule : ScheduleOf) : Type 0 where

@@ -253,10 +253,10 @@ did_next said.Killed transition h known = says_word _ transition word.Killed h r
 did_next (said.Refused why) transition h known = says_refused _ transition why refl refl known h
 did_next answered transition h known = absurd h
 
-shown_next : (answered : Book_reply) (transition : Transition) → WasShown answered transition → KnownReply answered → Next answered transition
-shown_next (said.Shown numbers) transition h known = handless _ transition _ h refl refl (λ e. cc)
-shown_next (said.Refused why) transition h known = says_refused _ transition why refl refl known h
-shown_next answered transition h known = absurd h
+shown_next : (page_size : ℕ) (answered : Book_reply) (transition : Transition) → WasShown page_size answered transition → KnownReply answered → Next answered transition
+shown_next page_size (said.Shown numbers) transition h known = handless _ transition _ h refl refl (λ e. cc)
+shown_next page_size (said.Refused why) transition h known = says_refused _ transition why refl refl known h
+shown_next page_size answered transition h known = absurd h
 
 closed_next : (resumed : Transition) (answered : Book_reply) (transition : Transition) → number_at (left_of resumed) ≡ None → FineOutcome (outcome_of resumed) → Closed resumed answered transition → KnownReply answered → Next answered transition
 closed_next resumed said.Ok transition none fine h known = handless _ transition resumed h refl none fine
@@ -264,17 +264,17 @@ closed_next resumed (said.StrangeIn ticket) transition none fine h known = absur
 closed_next resumed (said.StrangeOut ticket) transition none fine h known = absurd (known refl)
 closed_next resumed answered transition none fine h known = absurd h
 
-pub told_next : (remembers : Pending) (answered : Book_reply) (transition : Transition) → Told remembers answered transition → (reply_of answered ≡ reply.Refused Stranger → ⊥) → Next answered transition
-told_next (pending.Try access) answered transition h known = tried_next access answered transition h known
-told_next (pending.MakeRoom access why) answered transition h known = room_next access why answered transition h known
-told_next (pending.SetMax g) answered transition h known = set_next g.0 answered transition h known
-told_next (pending.Lower g) answered transition h known = lower_next g.0 answered transition h known
-told_next (pending.Reclaim g left) answered transition h known = reclaimed_next g.0 left answered transition h known
-told_next pending.Balance answered transition h known = balanced_next answered transition h known
-told_next pending.Make answered transition h known = made_next answered transition h known
-told_next pending.OfTask answered transition h known = did_next answered transition h known
-told_next pending.Show answered transition h known = shown_next answered transition h known
-told_next (pending.Arrive access) answered transition h known = closed_next _ answered transition refl tt h known
-told_next pending.FetchFail answered transition h known = closed_next _ answered transition refl (λ e. cc) h known
-told_next (pending.Leave on) answered transition h known = closed_next _ answered transition (resumes_at_handless on) tt h known
-told_next pending.LeaveFail answered transition h known = closed_next _ answered transition refl (λ e. cc) h known
+pub told_next : (page_size : ℕ) (remembers : Pending) (answered : Book_reply) (transition : Transition) → Told page_size remembers answered transition → (reply_of answered ≡ reply.Refused Stranger → ⊥) → Next answered transition
+told_next page_size (pending.Try access) answered transition h known = tried_next access answered transition h known
+told_next page_size (pending.MakeRoom access why) answered transition h known = room_next access why answered transition h known
+told_next page_size (pending.SetMax g) answered transition h known = set_next g.0 answered transition h known
+told_next page_size (pending.Lower g) answered transition h known = lower_next g.0 answered transition h known
+told_next page_size (pending.Reclaim g left) answered transition h known = reclaimed_next g.0 left answered transition h known
+told_next page_size pending.Balance answered transition h known = balanced_next answered transition h known
+told_next page_size pending.Make answered transition h known = made_next answered transition h known
+told_next page_size pending.OfTask answered transition h known = did_next answered transition h known
+told_next page_size pending.Show answered transition h known = shown_next page_size answered transition h known
+told_next page_size (pending.Arrive access) answered transition h known = closed_next _ answered transition refl tt h known
+told_next page_size pending.FetchFail answered transition h known = closed_next _ answered transition refl (λ e. cc) h known
+told_next page_size (pending.Leave on) answered transition h known = closed_next _ answered transition (resumes_at_handless on) tt h known
+told_next page_size pending.LeaveFail answered transition h known = closed_next _ answered transition refl (λ e. cc) h known

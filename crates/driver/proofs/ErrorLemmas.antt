@@ -152,10 +152,10 @@ did-cost reply.Killed transition h = rw h refl
 did-cost (reply.Refused why) transition h = rw h refl
 did-cost said transition h = absurd h
 
-shown-cost : (said : Reply) (transition : Transition) → WasShown said transition → cost transition ≡ 0
-shown-cost (reply.Shown numbers) transition h = rw h refl
-shown-cost (reply.Refused why) transition h = rw h refl
-shown-cost said transition h = absurd h
+shown-cost : (page_size : ℕ) (said : Reply) (transition : Transition) → WasShown page_size said transition → cost transition ≡ 0
+shown-cost page_size (reply.Shown numbers) transition h = rw h refl
+shown-cost page_size (reply.Refused why) transition h = rw h refl
+shown-cost page_size said transition h = absurd h
 
 -- nobody is told that a ticket is none of its own: no failure is swallowed so
 not_strange : (transition : Transition) → transition ≡ ends_refused Stranger → FineOutcome (outcome_of transition) → ⊥
@@ -170,20 +170,20 @@ closed-cost resumed (reply.StrangeIn ticket) transition h fine = absurd (not_str
 closed-cost resumed (reply.StrangeOut ticket) transition h fine = absurd (not_strange transition h fine)
 closed-cost resumed said transition h fine = absurd h
 
-told-cost : (remembers : Pending) (said : Reply) (transition : Transition) → Told remembers said transition → FineOutcome (outcome_of transition) → cost transition ≡ owed_pending remembers
-told-cost (pending.Try access) said transition h fine = tried-cost access said transition h
-told-cost (pending.MakeRoom access why) said transition h fine = room-cost access why said transition h
-told-cost (pending.SetMax g) said transition h fine = max-cost g.0 said transition h
-told-cost (pending.Lower g) said transition h fine = lowered-cost g.0 said transition h
-told-cost (pending.Reclaim g left) said transition h fine = reclaimed-cost g.0 left said transition h
-told-cost pending.Balance said transition h fine = balanced-cost said transition h
-told-cost pending.Make said transition h fine = made-cost said transition h
-told-cost pending.OfTask said transition h fine = did-cost said transition h
-told-cost pending.Show said transition h fine = shown-cost said transition h
-told-cost (pending.Arrive access) said transition h fine = closed-cost (Goes (stage.Try (arrived access))) said transition h fine
-told-cost pending.FetchFail said transition h fine = closed-cost (Ends (answer.Word word.Io)) said transition h fine
-told-cost (pending.Leave on) said transition h fine = closed-cost (Goes (resumes_at on)) said transition h fine ∙ on-cost on
-told-cost pending.LeaveFail said transition h fine = closed-cost (Ends (answer.Word word.Io)) said transition h fine
+told-cost : (page_size : ℕ) (remembers : Pending) (said : Reply) (transition : Transition) → Told page_size remembers said transition → FineOutcome (outcome_of transition) → cost transition ≡ owed_pending remembers
+told-cost page_size (pending.Try access) said transition h fine = tried-cost access said transition h
+told-cost page_size (pending.MakeRoom access why) said transition h fine = room-cost access why said transition h
+told-cost page_size (pending.SetMax g) said transition h fine = max-cost g.0 said transition h
+told-cost page_size (pending.Lower g) said transition h fine = lowered-cost g.0 said transition h
+told-cost page_size (pending.Reclaim g left) said transition h fine = reclaimed-cost g.0 left said transition h
+told-cost page_size pending.Balance said transition h fine = balanced-cost said transition h
+told-cost page_size pending.Make said transition h fine = made-cost said transition h
+told-cost page_size pending.OfTask said transition h fine = did-cost said transition h
+told-cost page_size pending.Show said transition h fine = shown-cost page_size said transition h
+told-cost page_size (pending.Arrive access) said transition h fine = closed-cost (Goes (stage.Try (arrived access))) said transition h fine
+told-cost page_size pending.FetchFail said transition h fine = closed-cost (Ends (answer.Word word.Io)) said transition h fine
+told-cost page_size (pending.Leave on) said transition h fine = closed-cost (Goes (resumes_at on)) said transition h fine ∙ on-cost on
+told-cost page_size pending.LeaveFail said transition h fine = closed-cost (Ends (answer.Word word.Io)) said transition h fine
 
 -- ---- the device's answer
 
@@ -212,7 +212,7 @@ owed_of wanted = 0
 want-cost : (caller : Caller) (past past' : Past) (old new : Disk) (wanted : Want) (transition : Transition) (owing : ℕ) → owed_of wanted ≡ owing
     → FineOutcome (outcome_of transition) → WantTurn caller past old wanted transition past' new → cost transition + old.failures ≡ owing + new.failures
 want-cost caller past past' old new (want.Call remembers what) transition owing is fine turn =
-    let told : cost transition ≡ owed_pending remembers = told-cost remembers turn.0.said transition turn.0.told fine in
+    let told : cost transition ≡ owed_pending remembers = told-cost past.state.opening.page_size remembers turn.0.said transition turn.0.told fine in
     let same : new.failures ≡ old.failures = ap (λ (d : Disk). d.failures) turn.1 in
     omega (arith, told, same, is)
 want-cost caller past past' old new (want.Read access ticket) transition owing is fine turn = let read = read-cost old new access ticket transition turn.0 in omega (arith, read, is)
@@ -280,10 +280,10 @@ writes-owed opening g text file.Current = refl
 writes-owed opening g text file.Events = refl
 writes-owed opening g text file.EventsLocal = refl
 writes-owed opening g text file.Stat = refl
-writes-owed opening g text file.Max = amount-owed (amount_of text) _ (λ a. refl)
-writes-owed opening g text (file.Guard guard) = amount-owed (amount_of text) _ (λ a. refl)
+writes-owed opening g text file.Max = amount-owed (amount_of opening.page_size text) _ (λ a. refl)
+writes-owed opening g text (file.Guard guard) = amount-owed (amount_of opening.page_size text) _ (λ a. refl)
 writes-owed opening g text file.OomGroup = flag-owed (flag_written opening.placement text) _ (λ flag. refl)
-writes-owed opening g text file.Reclaim = amount-owed (amount_of text) _ (reclaims-owed g)
+writes-owed opening g text file.Reclaim = amount-owed (amount_of opening.page_size text) _ (reclaims-owed g)
 
 task-owed : (t : ℕ) (what : Command) → owed_judged (task_judged t what) ≡ 0
 task-owed t (command.Access place op) = refl

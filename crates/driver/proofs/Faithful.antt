@@ -540,7 +540,7 @@ module _ (files : FirstBytes) (caller : Caller) (opening : Opening) (past : Past
 
 module _ (files : FirstBytes) (caller : Caller) (opening : Opening) (old new : Past) (disk disk' : Disk) (h : Holds files opening old disk.contents) where
   asked_faithful : (remembers : Pending) (what : Event) (said : Reply) (transition : Transition) → OfCommand what → KeepsPending caller old what → BringsPending files old disk.contents what → Called old caller (event_of what) (reply_of said) new
-      → HandsOut new caller.worker said → Told remembers said transition → TurnsFaithful files caller opening old disk.contents (want.Call remembers what) transition new disk.contents
+      → HandsOut new caller.worker said → Told old.state.opening.page_size remembers said transition → TurnsFaithful files caller opening old disk.contents (want.Call remembers what) transition new disk.contents
   asked_faithful remembers what said transition fine keeps brings called gives told = by_comes (called_comes old new caller (event_of what) (reply_of said) (of_command-leaves what fine) (pending_known caller old what keeps) called)
     where
       own : IsRefused old (reply_of said) new → Next said transition → BringsAt files old disk.contents (left_of transition)
@@ -553,11 +553,11 @@ module _ (files : FirstBytes) (caller : Caller) (opening : Opening) (old new : P
           subst (λ (p : Past). TurnsFaithful files caller opening old disk.contents (want.Call remembers what) transition p disk.contents) (sym still.same)
           (record {
             holds = h;
-            own = own still (told_next remembers said transition told (still_known old new said still));
+            own = own still (told_next old.state.opening.page_size remembers said transition told (still_known old new said still));
             others = λ at differ kept brought. brought;
           })
       by_comes (ByEntry went) =
-          faithful_on files caller opening old new disk.contents what said h keeps brings went (want.Call remembers what) transition gives (told_next remembers said transition told (went.done Stranger))
+          faithful_on files caller opening old new disk.contents what said h keeps brings went (want.Call remembers what) transition gives (told_next old.state.opening.page_size remembers said transition told (went.done Stranger))
 
   ends_faithful : (said : Answer) (transition : Transition) → transition ≡ Ends said → TurnsFaithful files caller opening old disk.contents (want.End said) transition old disk.contents
   ends_faithful said transition ends =

@@ -251,10 +251,10 @@ judged-plain opening tree who what = by_actor who
     writes g text file.Events = λ e. cc
     writes g text file.EventsLocal = λ e. cc
     writes g text file.Stat = λ e. cc
-    writes g text file.Max = by_amount (amount_of text) _ (λ amount. refl)
-    writes g text (file.Guard guard) = by_amount (amount_of text) _ (λ amount. refl)
+    writes g text file.Max = by_amount (amount_of opening.page_size text) _ (λ amount. refl)
+    writes g text (file.Guard guard) = by_amount (amount_of opening.page_size text) _ (λ amount. refl)
     writes g text file.OomGroup = by_flag (flag_written opening.placement text) _ (λ flag. refl)
-    writes g text file.Reclaim = by_amount (amount_of text) _ (reclaimed g)
+    writes g text file.Reclaim = by_amount (amount_of opening.page_size text) _ (reclaimed g)
 
     by_shell : (what : Command) (found : List (Option ℕ)) → Plain (shell_judged opening what found)
     by_shell (command.Access place op) found = λ e. cc

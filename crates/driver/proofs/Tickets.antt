@@ -344,12 +344,12 @@ module _ (caller : Caller) (opening : Opening) (old new : Past) (legal : LegalPa
   still_turn remembers what answered transition still (Writes on ticket is goes) = absurd (not_out old new answered ticket still is)
 
   pub asked_turn : (remembers : Pending) (what : Event) (said : Reply) (transition : Transition) → OfCommand what → KeepsPending caller old what → Called old caller (event_of what) (reply_of said) new → HandsOut new caller.worker said
-      → Told remembers said transition → TurnsWell caller opening old (want.Call remembers what) transition new
+      → Told old.state.opening.page_size remembers said transition → TurnsWell caller opening old (want.Call remembers what) transition new
   asked_turn remembers what said transition fine keeps called gives told = by_comes (called_comes old new caller (event_of what) (reply_of said) (of_command-leaves what fine) (pending_known caller old what keeps) called)
     where
       by_comes : Comes old caller (event_of what) (reply_of said) new → TurnsWell caller opening old (want.Call remembers what) transition new
-      by_comes (ByRefusal still) = still_turn remembers what said transition still (told_next remembers said transition told (still_known old new said still))
-      by_comes (ByEntry went) = on_turn remembers what said transition went keeps gives (told_next remembers said transition told (went.done Stranger))
+      by_comes (ByRefusal still) = still_turn remembers what said transition still (told_next old.state.opening.page_size remembers said transition told (still_known old new said still))
+      by_comes (ByEntry went) = on_turn remembers what said transition went keeps gives (told_next old.state.opening.page_size remembers said transition told (went.done Stranger))
 
   reads_turn : (disk disk' : Disk) (access : Access) (ticket : TicketOf) (transition : Transition) → IsComing caller old ticket → new ≡ old → ReadsIn disk access ticket transition disk' → TurnsWell caller opening old (want.Read access ticket) transition new
   reads_turn disk disk' access ticket transition coming same reads =

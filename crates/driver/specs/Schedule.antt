@@ -111,7 +111,7 @@ pub record Asks (caller : Caller) (old : Past) (remembers : Pending) (what : Eve
   pub called : Called old caller (event_of what) (reply_of said) mid
   pub gives : HandsOut mid caller.worker said
   pub keeps : KeepsTicket caller.worker what said
-  pub told : Told remembers said transition
+  pub told : Told old.state.opening.page_size remembers said transition
   pub marks : MarksAfter (marks_hit old.state.opening.placement remembers) caller mid (reply_of said) new
 
 -- a turn asks the book or the device, and leaves the other as it was; or it asks neither, and the command ends. (Excludes an EIO without a call of the

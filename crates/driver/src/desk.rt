@@ -90,8 +90,9 @@ impl Desk {
         ensures limit { self.new.turns ≡ self.old.turns }
     {
         let marks = pending.marks_hit(self.book.placement());
+        let page_size = self.book.page_size();
         let reply = self.book.call(&mut self.pass, event, marks);
-        told(self.alloc, pending, reply)
+        told(self.alloc, page_size, pending, reply)
     }
 
     /// What a command in this state asks for, with the book as it is now.

@@ -17,6 +17,7 @@ use crate::calls;
 use crate::hits::HitMarks;
 use book::{Book, Event, Pass, Reply};
 use machine::config::{Config, Placement, Watermarks};
+use machine::page_size::PageSize;
 use machine::refusal::Refusal;
 use std::alloc::{AllocError, Global};
 use std::marker::Model;
@@ -86,6 +87,13 @@ impl MarkedBook {
         ensures { result ≡ self.now.state.opening.placement }
     {
         self.book.placement()
+    }
+
+    /// How many bytes a page stands for in amounts and texts.
+    pub fn page_size(&self) -> PageSize
+        ensures { result.bytes ≡ self.now.state.opening.page_size }
+    {
+        self.book.page_size()
     }
 
     /// Does nothing. The clause says what holds of the book's history.

@@ -62,7 +62,7 @@ offset_in other = None
 abbrev pub is_task_number : ℕ → Bool
 is_task_number number = nat_le 1 number && nat_le number 65535
 
--- what is told names what the command names; and a page, an offset or a number is past its limit, a text is no amount, and a control file none that
+-- what is told names what the command names; and a page, an offset or a number is past its limit, a text is no amount (whatever a page stands for, so 4K will do), and a control file none that
 -- is modelled, or that the root has, where that is told. (Excludes a limit that is told of a number within it, and another group's path.)
 abbrev pub IsSo : Actor → Command → Reason → Type 0
 IsSo who what (reason.RoomOnItsWay path) = path_in what ≡ Some path.now
@@ -80,8 +80,8 @@ IsSo who what (reason.RootLacks file) = (file_in what ≡ Some file.now) × IfSo
 IsSo who what (reason.NotWritten file) = file_in what ≡ Some file.now
 IsSo who what (reason.NotRead file) = file_in what ≡ Some file.now
 IsSo who what (reason.NoFlag text) = (text_in what ≡ Some text.now) × (flag_of text.now ≡ None)
-IsSo who what (reason.NoAmount text) = (text_in what ≡ Some text.now) × (amount_of text.now ≡ None)
-IsSo who what (reason.AmountTooLarge text) = (text_in what ≡ Some text.now) × (amount_of text.now ≡ None)
+IsSo who what (reason.NoAmount text) = (text_in what ≡ Some text.now) × (amount_of 4096 text.now ≡ None)
+IsSo who what (reason.AmountTooLarge text) = (text_in what ≡ Some text.now) × (amount_of 4096 text.now ≡ None)
 IsSo who what (reason.NoTaskNumber number) = ((number_in what ≡ Some number) ⊎ (who ≡ actor.Task number)) × (is_task_number number ≡ false)
 IsSo who what (reason.NumberUsed number) = number_in what ≡ Some number
 IsSo who what (reason.NoTask number) = who ≡ actor.Task number

@@ -4,10 +4,11 @@
 //! first of the line that fails the test of the cause. No clause speaks of the texts.
 
 use crate::meant::{line_word_meant, task_word_meant};
-use crate::why::{BadPath, Placed, Why};
-use control_files::parse_amount;
+use crate::why::{BadPath, Pages, Placed, Why};
+use control_files::{parse_amount, parse_page_size};
 use machine::amount::Amount;
 use machine::limit::{LAST_NUMBER, MOST_BLOCKS, MOST_FILES};
+use machine::page_size::PageSize;
 use scripts::check::{name_fits, number_fits, word_fits};
 use scripts::forms::{Kind, Manner, Speaker, Word, may_stand, takes_line, word_named};
 use scripts::header::{header_frames, is_of_header, is_skipped, word_of};
@@ -188,7 +189,7 @@ fn extra_argument<'w>(parts: &Parts<'w, '_>) -> Option<Why<'w>> {
 }
 
 /// A word that has other characters than digits, in place of a number.
-fn not_digits<'w>(parts: &Parts<'w, '_>, placed: Placed<'w>, kind: Kind) -> Why<'w> {
+fn not_digits<'w>(text: &[u8], parts: &Parts<'w, '_>, placed: Placed<'w>, kind: Kind) -> Why<'w> {
     if placed.text.starts_with('/')
         && let Some(next) = parts.placed(2)
         && is_digits(next.text)
@@ -198,22 +199,47 @@ fn not_digits<'w>(parts: &Parts<'w, '_>, placed: Placed<'w>, kind: Kind) -> Why<
     if placed.text.contains("..") {
         return Why::Range(placed, kind);
     }
-    match parse_amount(placed.text) {
-        Some(Amount::Pages(pages)) => Why::Amount(placed, kind, pages),
+    let page_size = page_size_asked(text);
+    match parse_amount(page_size, placed.text) {
+        Some(Amount::Pages(number)) => Why::Amount(placed, kind, Pages { number, page_size }),
         _ => Why::NotDigits(placed, kind),
     }
 }
 
 /// A word that is not a number of this kind.
-fn no_number<'w>(parts: &Parts<'w, '_>, placed: Placed<'w>, kind: Kind) -> Why<'w> {
+fn no_number<'w>(text: &[u8], parts: &Parts<'w, '_>, placed: Placed<'w>, kind: Kind) -> Why<'w> {
     if !is_digits(placed.text) {
-        return not_digits(parts, placed, kind);
+        return not_digits(text, parts, placed, kind);
     }
     match (kind, number_of(placed.text)) {
         (Kind::Number { least, .. }, Some(number)) if number < least => Why::Below(placed, least),
         (Kind::Number { most, .. }, _) => Why::Above(placed, most),
         _ => Why::Above(placed, LAST_NUMBER),
     }
+}
+
+/// The size of a page that the first `page` line of the text asks for; 4K if there is none, or it asks for none that a page
+/// may have.
+fn page_size_asked(text: &[u8]) -> PageSize {
+    match earlier_line(text, usize::MAX, Earlier::With(Word::PageSize)) {
+        Some(number) => page_size_in(line_at(text, number)),
+        None => PageSize::of_4k(),
+    }
+}
+
+/// The size that this `page` line asks for.
+fn page_size_in(line: &[u8]) -> PageSize {
+    let words = words_of(as_text(line).unwrap_or(""));
+    let size = words
+        .as_slice()
+        .get(1)
+        .and_then(|size| parse_page_size(size.text()));
+    size.unwrap_or(PageSize::of_4k())
+}
+
+/// The word is no page size.
+fn bad_page_size<'w>(parts: &Parts<'w, '_>) -> Option<Why<'w>> {
+    Some(Why::Misfit(parts.placed(1)?, Kind::PageSize))
 }
 
 /// The daemon's watermarks are out of order, or above the frames.
@@ -246,7 +272,7 @@ fn bad_number<'w>(
         return Ok(None);
     };
     match parts.misfit(word, Cause::BadNumber) {
-        Some((kind, placed)) => Ok(Some(no_number(parts, placed, kind))),
+        Some((kind, placed)) => Ok(Some(no_number(text, parts, placed, kind))),
         None => bad_marks(alloc, text, parts),
     }
 }
@@ -389,6 +415,7 @@ fn why<'w>(
         Cause::MissingArgument => Ok(missing_argument(&parts)),
         Cause::ExtraArgument => Ok(extra_argument(&parts)),
         Cause::BadNumber => bad_number(alloc, text, &parts),
+        Cause::BadPageSize => Ok(bad_page_size(&parts)),
         Cause::BadName => Ok(bad_name(&parts)),
         Cause::HeaderAfterCommands => Ok(header_after_commands(text, line, parts.word())),
         Cause::HeaderTwice => Ok(header_twice(text, line, &parts)),

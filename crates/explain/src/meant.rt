@@ -4,12 +4,13 @@ use scenarios::nearest::nearest;
 use std::alloc::{AllocError, Global};
 
 /// The first words of lines, except a task's number.
-const LINE_WORDS: [&str; 20] = [
+const LINE_WORDS: [&str; 21] = [
     "frames",
     "swap",
     "file",
     "watermarks",
     "recursiveprot",
+    "page",
     "trace",
     "fault",
     "group",

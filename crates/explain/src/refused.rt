@@ -16,6 +16,7 @@ use machine::control::ControlFile;
 use machine::event::Place;
 use machine::id::GroupId;
 use machine::limit::{LAST_TASK, MOST_FILES, TASK_PAGES};
+use machine::page_size::PageSize;
 use machine::refusal::Refusal;
 use std::alloc::Global;
 use text_forms::number::is_digits;
@@ -359,7 +360,8 @@ fn not_set<'a>(told: Told<'a>, file: &'a str, text: &'a str) -> Option<Reason<'a
         Some(ControlFile::OomGroup) => return no_flag(told, text),
         _ => return Some(Reason::NotWritten(file)),
     }
-    match parse_amount(text) {
+    // Which texts are amounts does not depend on the page size.
+    match parse_amount(PageSize::of_4k(), text) {
         Some(Amount::Max) => Some(Reason::MaxReclaimed),
         Some(Amount::Pages(_)) => None,
         None if is_written_out(text) => Some(Reason::AmountTooLarge(text)),

@@ -1,6 +1,7 @@
 //! The texts that say more of a fault than its cause does.
 
 use crate::sentence::Sentence;
+use machine::page_size::PageSize;
 use scripts::forms::{Form, Kind};
 use std::fmt;
 use std::fmt::{Formatter, Write};
@@ -27,6 +28,27 @@ impl fmt::Display for Placed<'_> {
     }
 }
 
+/// What a page size may be.
+const PAGE_SIZES: &str = "a page size: 4K, 8K, 16K or another power of two, at most 64M";
+
+/// A number of pages, and their size.
+#[derive(Clone, Copy)]
+pub struct Pages {
+    pub number: u64,
+    pub page_size: PageSize,
+}
+
+/// The size, in K or M, and the number.
+impl fmt::Display for Pages {
+    fn fmt<W: Write>(&self, f: &mut Formatter<W>) -> fmt::Result {
+        let kibibytes = self.page_size.bytes / 1024;
+        match kibibytes % 1024 {
+            0 => write!(f, "{}M: {}", kibibytes / 1024, self.number),
+            _ => write!(f, "{kibibytes}K: {}", self.number),
+        }
+    }
+}
+
 /// What is required in a place of this kind.
 #[derive(Clone, Copy)]
 struct Wanted(Kind);
@@ -39,6 +61,7 @@ impl fmt::Display for Wanted {
             Kind::Name => f.write_str("a name of a file"),
             Kind::Actor => f.write_str("a task's number, shell, control or daemon"),
             Kind::Call => f.write_str("read or write"),
+            Kind::PageSize => f.write_str(PAGE_SIZES),
             Kind::Any => f.write_str("a word"),
             Kind::Line => f.write_str("a line"),
         }
@@ -130,8 +153,8 @@ pub enum Why<'a> {
     /// The line has more words than the form, from this one on.
     Extra(Placed<'a>, Form),
     NotDigits(Placed<'a>, Kind),
-    /// The same: the word is an amount, of this number of pages.
-    Amount(Placed<'a>, Kind, u64),
+    /// The same: the word is an amount, of this number of pages of the script.
+    Amount(Placed<'a>, Kind, Pages),
     /// The same: the word is a range.
     Range(Placed<'a>, Kind),
     /// The first word is a path, and the second a task's number.
@@ -174,6 +197,7 @@ const LINE_WORDS: &str =
 enum Part<'a> {
     Word(Placed<'a>),
     Number(u64),
+    Pages(Pages),
     /// In hexadecimal.
     Byte(u8),
     /// A word of the language, or several.
@@ -188,6 +212,7 @@ impl fmt::Display for Part<'_> {
         match self {
             Part::Word(word) => write!(f, "{word}"),
             Part::Number(number) => write!(f, "{number}"),
+            Part::Pages(pages) => write!(f, "{pages}"),
             Part::Byte(byte) => write!(f, "0x{byte:02x}"),
             Part::Name(name) => f.write_str(name),
             Part::Kind(kind) => write!(f, "{}", Wanted(*kind)),
@@ -321,8 +346,8 @@ impl<'a> Why<'a> {
                 first: Some(Part::Word(word)),
                 middle: " is not ",
                 second: Some(Part::Kind(kind)),
-                end: "; so many bytes in pages of 4K: ",
-                last: Some(Part::Number(pages)),
+                end: "; so many bytes in pages of ",
+                last: Some(Part::Pages(pages)),
             },
             Why::Range(word, kind) => about_with(
                 word,

@@ -44,5 +44,6 @@ pub fn copy_of_config(alloc: Global, config: &Config) -> Result<Config, AllocErr
         turns: config.turns,
         recursive: config.recursive,
         placement: config.placement,
+        page_size: config.page_size,
     })
 }

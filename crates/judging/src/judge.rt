@@ -224,11 +224,11 @@ fn write_named(book: &Book, group: GroupId, file: ControlFile, text: &str) -> Re
     match file {
         ControlFile::Current | ControlFile::Events | ControlFile::EventsLocal | ControlFile::Stat =>
             Err(Refusal::Invalid),
-        ControlFile::Max => match parse_amount(text) {
+        ControlFile::Max => match parse_amount(book.page_size(), text) {
             Some(max) => Ok(Stage::SetMax { group, max }),
             None => Err(Refusal::Invalid),
         },
-        ControlFile::Guard(guard) => match parse_amount(text) {
+        ControlFile::Guard(guard) => match parse_amount(book.page_size(), text) {
             Some(amount) => Ok(Stage::SetGuard {
                 group,
                 guard,
@@ -240,7 +240,7 @@ fn write_named(book: &Book, group: GroupId, file: ControlFile, text: &str) -> Re
             Some(flag) => Ok(Stage::SetOomGroup { group, flag }),
             None => Err(Refusal::Invalid),
         },
-        ControlFile::Reclaim => match parse_amount(text) {
+        ControlFile::Reclaim => match parse_amount(book.page_size(), text) {
             Some(Amount::Pages(left)) => Ok(Stage::Reclaim { group, left }),
             // `max` is not a number of pages.
             Some(Amount::Max) | None => Err(Refusal::Invalid),

@@ -25,7 +25,7 @@ use Rattle.laws.specs.Laws.{LeavesInOrder, Call, changes_groups, Follow, takes_f
 use Rattle.laws.proofs.Legals.{IsLegal, legal-called}
 use Rattle.laws.proofs.CallLemmas.{IsOrdered, called_or, orders_or, ordered-called, called_leaves}
 use Rattle.laws.proofs.OrderLemmas.{runs_ordered}
-use Rattle.laws.proofs.OnceLemmas.{times, IsOnce, above-least, preorder_once, times-other}
+use Rattle.reclaim.proofs.PreorderOnce.{times, IsOnce, above-least, preorder_once, times-other}
 use Rattle.laws.proofs.RoundLemmas.{comes_first, find-none, first_before, last_after, first_stays}
 
 -- ---- the group that is served is the first that is asked

@@ -129,12 +129,12 @@ closed_why resumed (said.StrangeIn ticket) transition why h e = cc
 closed_why resumed (said.StrangeOut ticket) transition why h e = cc
 closed_why resumed answered transition why h e = absurd h
 
-refused_open : (remembers : Pending) (answered : Reply) (transition : Transition) (why : Refusal) → Told remembers answered transition → reply_of answered ≡ reply.Refused why → (why ≡ Stranger → ⊥) → closes remembers ≡ false
-refused_open (pending.Arrive access) answered transition why h e known = absurd (known (closed_why _ answered transition why h e))
-refused_open pending.FetchFail answered transition why h e known = absurd (known (closed_why _ answered transition why h e))
-refused_open (pending.Leave on) answered transition why h e known = absurd (known (closed_why _ answered transition why h e))
-refused_open pending.LeaveFail answered transition why h e known = absurd (known (closed_why _ answered transition why h e))
-refused_open others answered transition why h e known = refl
+refused_open : (page_size : ℕ) (remembers : Pending) (answered : Reply) (transition : Transition) (why : Refusal) → Told page_size remembers answered transition → reply_of answered ≡ reply.Refused why → (why ≡ Stranger → ⊥) → closes remembers ≡ false
+refused_open page_size (pending.Arrive access) answered transition why h e known = absurd (known (closed_why _ answered transition why h e))
+refused_open page_size pending.FetchFail answered transition why h e known = absurd (known (closed_why _ answered transition why h e))
+refused_open page_size (pending.Leave on) answered transition why h e known = absurd (known (closed_why _ answered transition why h e))
+refused_open page_size pending.LeaveFail answered transition why h e known = absurd (known (closed_why _ answered transition why h e))
+refused_open page_size others answered transition why h e known = refl
 
 -- ---- one turn
 
@@ -150,11 +150,11 @@ module _ (caller : Caller) (opening : Opening) (old new : Past) (legal : LegalPa
       let hands : one_if (carries (left_of transition)) ≡ one_if (holds_want wanted) = ap one_if carried in
       record { counts = omega (arith, pages, hands) }
 
-  refused_hands : (remembers : Pending) (what : Event) (answered : Reply) (transition : Transition) → is_ending what ≡ closes remembers → Told remembers answered transition → IsRefused old (reply_of answered) new
+  refused_hands : (remembers : Pending) (what : Event) (answered : Reply) (transition : Transition) → is_ending what ≡ closes remembers → Told old.state.opening.page_size remembers answered transition → IsRefused old (reply_of answered) new
       → Next answered transition → HandsOn old (want.Call remembers what) transition new
   refused_hands remembers what answered transition paired told still next =
       same_hands (want.Call remembers what) transition still.same
-      (next_carries answered transition next ∙ sym (begins-reply answered) ∙ ap begins_transfer still.refused ∙ sym (paired ∙ refused_open remembers answered transition still.why told still.refused still.known))
+      (next_carries answered transition next ∙ sym (begins-reply answered) ∙ ap begins_transfer still.refused ∙ sym (paired ∙ refused_open old.state.opening.page_size remembers answered transition still.why told still.refused still.known))
 
   served_hands : (remembers : Pending) (what : Event) (answered : Reply) (transition : Transition) → KeepsPending caller old what → IsServed old caller (event_of what) (reply_of answered) new → Next answered transition
       → HandsOn old (want.Call remembers what) transition new
@@ -170,11 +170,11 @@ module _ (caller : Caller) (opening : Opening) (old new : Past) (legal : LegalPa
       let ending : one_if (ends_transfer (event_of what)) ≡ one_if (is_ending what) = ap one_if (ends-event what) in
       record { counts = omega (arith, before, after, begun, ended, given, ending) }
 
-  asked_hands : (remembers : Pending) (what : Event) (answered : Reply) (transition : Transition) → is_ending what ≡ closes remembers → OfCommand what → KeepsPending caller old what → Told remembers answered transition
+  asked_hands : (remembers : Pending) (what : Event) (answered : Reply) (transition : Transition) → is_ending what ≡ closes remembers → OfCommand what → KeepsPending caller old what → Told old.state.opening.page_size remembers answered transition
       → Comes old caller (event_of what) (reply_of answered) new → HandsOn old (want.Call remembers what) transition new
   asked_hands remembers what answered transition paired fine keeps told (ByRefusal still) =
-      refused_hands remembers what answered transition paired told still (told_next remembers answered transition told (still_known old new answered still))
-  asked_hands remembers what answered transition paired fine keeps told (ByEntry went) = served_hands remembers what answered transition keeps went (told_next remembers answered transition told (went.done Stranger))
+      refused_hands remembers what answered transition paired told still (told_next old.state.opening.page_size remembers answered transition told (still_known old new answered still))
+  asked_hands remembers what answered transition paired fine keeps told (ByEntry went) = served_hands remembers what answered transition keeps went (told_next old.state.opening.page_size remembers answered transition told (went.done Stranger))
 
   read_hands : (disk disk' : Disk) (access : Access) (ticket : TicketOf) (transition : Transition) → new ≡ old → ReadsIn disk access ticket transition disk' → HandsOn old (want.Read access ticket) transition new
   read_hands disk disk' access ticket transition same reads = same_hands (want.Read access ticket) transition same (ap (λ (t : Transition). carries (left_of t)) reads.goes ∙ by_answer reads.answered)

@@ -225,7 +225,7 @@ module _ (before after : State) (a : ℕ) where
   meet_within t g place op answer Transferring is h = same_within before after a h.1
   meet_within t g place op answer (NeedsPage v) is h = charge_within g _ answer (λ none made. makes_within t v g op answer none made) h
   meet_within t g place op answer (NeedsCopy v) is h = charge_within g _ answer (λ none made. makes_within t v g op answer none made) h
-  meet_within t g place op answer (NeedsSwapIn p page block) is h = charge_within page.group _ answer (λ none begun. fetch_within p page.group page.content block answer none begun) h
+  meet_within t g place op answer (NeedsSwapIn p page block) is h = charge_within _ _ answer (λ none begun. fetch_within p _ page.content block answer none begun) h
   meet_within t g place op answer (NeedsRead file q) is h = charge_within g _ answer (λ none begun. fetch_within begun.page g (OfFile file q) _ answer none begun.fetch) h
   meet_within t g place op answer Dangling is h = absurd h
 

@@ -4,7 +4,6 @@ pub mod ReclaimLemmas
 pub mod RiseLemmas
 pub mod CallLemmas
 pub mod OrderLemmas
-pub mod OnceLemmas
 pub mod RoundLemmas
 pub mod EvenLemmas
 pub mod HandLemmas

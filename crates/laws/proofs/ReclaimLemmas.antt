@@ -149,7 +149,7 @@ module _ (before after : State) where
   meet_keeps t g op Transferring h = let e = h.0 in cc
   meet_keeps t g op (NeedsPage v) h = charge_keeps (over_in before g) (is_frame_free before) _ (λ made. let e = made.answers in cc) h
   meet_keeps t g op (NeedsCopy v) h = charge_keeps (over_in before g) (is_frame_free before) _ (λ made. let e = made.answers in cc) h
-  meet_keeps t g op (NeedsSwapIn p page block) h = charge_keeps (over_in before page.group) (is_frame_free before) _ (λ begun. let e = begun.answers in cc) h
+  meet_keeps t g op (NeedsSwapIn p page block) h = charge_keeps (over_in before _) (is_frame_free before) _ (λ begun. let e = begun.answers in cc) h
   meet_keeps t g op (NeedsRead file q) h = charge_keeps (over_in before g) (is_frame_free before) _ (λ begun. let e = begun.fetch.answers in cc) h
   meet_keeps t g op Dangling h = h
 

@@ -22,7 +22,7 @@ use Rattle.machine.proofs.SlotLemmas.{one_if, count_there-changes}
 use Rattle.laws.specs.Laws.{OnlyAccessesCharge, WriteOutsStayCharged}
 use Rattle.machine.proofs.TestLemmas.{bool_le, tests-less, count-less}
 use Rattle.legal.proofs.SoundLemmas.{still_passes, legal-sound, legal-fit}
-use Rattle.legal.proofs.Did.{is_access, is_out, Moves, Rests, Comes, Goes, Lands, Lies, Did, Kept, Made, Moved, Cached, Dropped, Ended, Spawned, Forked, Freed, Attached, Removed, Grown, step_did}
+use Rattle.legal.proofs.Did.{is_access, is_out, ChargedTo, ItsOwn, ItsReaders, same_group, Moves, Rests, Comes, Goes, Lands, Lies, Did, Kept, Made, Moved, Cached, Dropped, Ended, Spawned, Forked, Freed, Attached, Removed, Grown, step_did}
 use Rattle.legal.proofs.RemovedCounts.{usage-no_more}
 use Rattle.machine.proofs.Values.{unlike}
 
@@ -85,6 +85,19 @@ module _ (before after : State) (a : ℕ) where
   framed what answer page dirty now other (Lands frame out had is as_it_was arrives) e = ap is_some_number had
   framed what answer page dirty now other (Lies frame block out had on is as_it_was anon) e = ap is_some_number had
 
+  -- a page is whose it was, but one that an access reads in
+  unread : (what : Event) (page : Page) (to : ℕ) → is_access what ≡ false → ChargedTo before what page to → to ≡ page.group
+  unread what page to other (ItsOwn same) = same
+  unread what page to other (ItsReaders t block access alive away reads) = unlike (is_access what) access other
+
+  -- and the same is charged for one that has a frame
+  charged_alike : (what : Event) (page : Page) (to : ℕ) → ChargedTo before what page to → one_if (has_frame page && under before.tree a to) ≡ one_if (is_charged before.tree a page)
+  charged_alike what page to whose = by_frame (has_frame page) refl
+    where
+      by_frame : (b : Bool) → has_frame page ≡ b → one_if (b && under before.tree a to) ≡ one_if (b && under before.tree a page.group)
+      by_frame true framed = ap (λ (g : ℕ). one_if (under before.tree a g)) (same_group before what page to framed whose)
+      by_frame false unframed = refl
+
   -- the pages that nothing maps any more are gone
   stilled_less : after.tree ≡ before.tree → ((p : ℕ) → page_at after.pages p ≡ still after.page_tables p (page_at before.pages p)) → Less
   unfolding Less
@@ -98,10 +111,13 @@ module _ (before after : State) (a : ℕ) where
   unfolding Less
   did_less what answer other falls groups (Kept limits flags counted e) = let same : usage after a ≡ usage before a = ap (λ (s : State). usage s a) e in omega (arith, same)
   did_less what answer other falls groups (Made t v p frame access out alive shared within free unused placed shown e) = unlike (is_access what) access other
-  did_less what answer other falls groups (Moved p page dirty now counted there placed moves mapped e) =
+  did_less what answer other falls groups (Moved p page to dirty now counted there whose placed moves mapped e) =
       let one = one_changes p (Some page) _ (ap (λ (s : State). s.tree) e) there placed in
-      let less : one_if (is_some_number (frame_at now) && under before.tree a page.group) ≤ one_if (is_charged before.tree a page) =
-      bool_le _ _ (λ is. let both = and_parts (is_some_number (frame_at now)) (under before.tree a page.group) is in rw (framed what answer page dirty now other moves both.0, both.1) refl) in
+      let less : one_if (is_some_number (frame_at now) && under before.tree a to) ≤ one_if (is_charged before.tree a page) =
+      bool_le _ _
+      (λ is.
+      let both = and_parts (is_some_number (frame_at now)) (under before.tree a to) is in
+      rw (framed what answer page dirty now other moves both.0, ap (under before.tree a) (sym (unread what page to other whose)) ∙ both.1) refl) in
       omega (arith, one, less)
   did_less what answer other falls groups (Cached t f q p frame ticket access out alive unread within free unused fresh filed placed e) = unlike (is_access what) access other
   did_less what answer other falls groups (Dropped p page counted out there may_go went gone e) = let one = one_changes p (Some page) None (ap (λ (s : State). s.tree) e) there gone in omega (arith, one)
@@ -125,10 +141,10 @@ module _ (before after : State) (a : ℕ) where
   unfolding Kept_so
   did_keep what answer out (Kept limits flags counted e) = ap (λ (s : State). usage s a) e
   did_keep what answer out (Made t v p frame access other alive shared within free unused placed shown e) = unlike (is_out answer) out other
-  did_keep what answer out (Moved p page dirty now counted there placed moves mapped e) =
+  did_keep what answer out (Moved p page to dirty now counted there whose placed moves mapped e) =
       let one = one_changes p (Some page) _ (ap (λ (s : State). s.tree) e) there placed in
-      let same : one_if (is_some_number (frame_at now) && under before.tree a page.group) ≡ one_if (is_charged before.tree a page) =
-      ap (λ o. one_if (is_some_number o && under before.tree a page.group)) (framed_still what answer page dirty now out moves) in
+      let same : one_if (is_some_number (frame_at now) && under before.tree a to) ≡ one_if (is_charged before.tree a page) =
+      ap (λ o. one_if (is_some_number o && under before.tree a to)) (framed_still what answer page dirty now out moves) ∙ charged_alike what page to whose in
       omega (arith, one, same)
   did_keep what answer out (Cached t f q p frame ticket access other alive unread within free unused fresh filed placed e) = unlike (is_out answer) out other
   did_keep what answer out (Dropped p page counted other there may_go went gone e) = unlike (is_out answer) out other

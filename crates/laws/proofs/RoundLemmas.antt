@@ -8,7 +8,7 @@ use Rattle.std.proofs.lemmas.Bool.Decides.{nat_tests}
 use Rattle.std.proofs.lemmas.Iterator.Adapters.{position_from-zero}
 use Rattle.std.proofs.lemmas.List.Folds.{find-append}
 use Rattle.machine.specs.Order.{round_from, place_in}
-use Rattle.laws.proofs.OnceLemmas.{times, IsOnce, times-append, times-own, times-other}
+use Rattle.reclaim.proofs.PreorderOnce.{times, IsOnce, times-append, times-own, times-other}
 
 -- of two groups this one comes first
 abbrev pub comes_first : ℕ → ℕ → List ℕ → Bool

@@ -108,7 +108,7 @@ module _ (before after : State) where
   meeting t g op Transferring answer h = same h.1
   meeting t g op (NeedsPage v) answer h = charged g _ answer (makes t v g op answer) h
   meeting t g op (NeedsCopy v) answer h = charged g _ answer (makes t v g op answer) h
-  meeting t g op (NeedsSwapIn p page block) answer h = charged page.group _ answer (fetches p page.group page.content block answer) h
+  meeting t g op (NeedsSwapIn p page block) answer h = charged _ _ answer (fetches p _ page.content block answer) h
   meeting t g op (NeedsRead file q) answer h = charged g _ answer (reads file q g answer) h
   meeting t g op Dangling answer h = absurd h
 

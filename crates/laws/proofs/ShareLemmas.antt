@@ -16,7 +16,7 @@ use Rattle.machine.specs.State.{State, usage}
 use Rattle.machine.specs.Step.{Forks, LifeStep, TaskStep, Removes, Step}
 use Rattle.machine.specs.History.{InTask, As, says, says_if, follow, last}
 use Rattle.machine.proofs.Values.{unlike}
-use Rattle.machine.proofs.RemovedLemmas.{usage-removed}
+use Rattle.page_lists.proofs.RegroupedLemmas.{usage-removed}
 use Rattle.legal.proofs.SoundLemmas.{legal-fit, legal-sound}
 use Rattle.legal.proofs.RemovedCounts.{removal, total-removed, usage-nobody}
 use Rattle.laws.specs.Laws.{ForksShare, MovesTakeNoCharge, RemovalsKeepAncestorsCounts, RemovedGroupsHaveNoPages}

@@ -313,9 +313,9 @@ module _ (old : World) (marked : Bool) (new : World) (asks : AsksOne old marked 
         | inr merge ↦ unlike (leaves_entry (event_of asks.what)) (of_command-leaves asks.what asks.fine.0) (ap leaves_entry merge.2)
       ]
 
-  tries_done : (remembers : Pending) (byte : ℕ) (hit : Option FrameId) (transition : Transition) (what : Event) → Told remembers (said.Done byte hit) transition → Tries remembers what → (access : Access) × (what ≡ access_event access)
-  tries_done (pending.Try access) byte hit transition what told tries = (access, tries)
-  tries_done remembers byte hit transition what told tries = absurd told
+  tries_done : (page_size : ℕ) (remembers : Pending) (byte : ℕ) (hit : Option FrameId) (transition : Transition) (what : Event) → Told page_size remembers (said.Done byte hit) transition → Tries remembers what → (access : Access) × (what ≡ access_event access)
+  tries_done page_size (pending.Try access) byte hit transition what told tries = (access, tries)
+  tries_done page_size remembers byte hit transition what told tries = absurd told
 
   -- whatever is marked was marked before, or is the page that was hit
   pub record IsPageHit (p : ℕ) : Type 0 where
@@ -332,7 +332,7 @@ module _ (old : World) (marked : Bool) (new : World) (asks : AsksOne old marked 
       of_hit : (byte : ℕ) (frame : FrameId) → asks.asks.said ≡ said.Done byte (Some frame) → marked ≡ true → (bits : ℕ) → ((f : ℕ) → f / 64 ≡ frame.0 / 64 → bit_at bits (f % 64) ≡ (cond (f == frame.0) 1 0))
           → is_named mid.state mid.order.held (frame.0 / 64) bits p ≡ true → IsPageHit p
       of_hit byte frame is is_marked_so bits one named =
-          let access = tries_done asks.remembers byte (Some frame) asks.transition asks.what (subst (λ (r : Reply). Told asks.remembers r asks.transition) is asks.asks.told) asks.fine.1 in
+          let access = tries_done old.past.state.opening.page_size asks.remembers byte (Some frame) asks.transition asks.what (subst (λ (r : Reply). Told old.past.state.opening.page_size asks.remembers r asks.transition) is asks.asks.told) asks.fine.1 in
           let what : event_of asks.what ≡ plain.Access access.0.task access.0.place access.0.op = ap event_of access.1 in
           let answer : reply_of asks.asks.said ≡ said_of.Done byte (Some frame) = ap reply_of is in
           let page = hit_page access.0.task access.0.place access.0.op byte frame what answer in

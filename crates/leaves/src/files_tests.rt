@@ -2,6 +2,7 @@
 
 use files::blocks_for;
 use machine::config::{Config, File, FileList, Placement, Watermarks};
+use machine::page_size::PageSize;
 use machine::text::Text;
 use std::alloc::{AllocError, Global};
 use std::test::Fail;
@@ -32,6 +33,7 @@ fn blocks(swap: u32, files: FileList) -> Option<u32> {
         turns: 1000,
         recursive: false,
         placement: Placement::Own,
+        page_size: PageSize::of_4k(),
     })
 }
 

@@ -147,7 +147,7 @@ module _ (old new : State) (t : TaskId) (place : Place) (op : Op) where
   meeting g Transferring answer h = quiet old new access answer reply.Busy refl refl h.0 (ap (λ (s : State). s.counted) h.1)
   meeting g (NeedsPage v) answer h = charged (over_in old g) (is_frame_free old) _ answer (λ k. quiet old new access answer _ refl refl k.answers (ap (λ (s : State). s.counted) k.state)) h
   meeting g (NeedsCopy v) answer h = charged (over_in old g) (is_frame_free old) _ answer (λ k. quiet old new access answer _ refl refl k.answers (ap (λ (s : State). s.counted) k.state)) h
-  meeting g (NeedsSwapIn p page block) answer h = charged (over_in old page.group) (is_frame_free old) _ answer (λ k. quiet old new access answer _ refl refl k.answers (ap (λ (s : State). s.counted) k.state)) h
+  meeting g (NeedsSwapIn p page block) answer h = charged (over_in old _) (is_frame_free old) _ answer (λ k. quiet old new access answer _ refl refl k.answers (ap (λ (s : State). s.counted) k.state)) h
   meeting g (NeedsRead file q) answer h = charged (over_in old g) (is_frame_free old) _ answer (λ k. quiet old new access answer _ refl refl k.fetch.answers (ap (λ (s : State). s.counted) k.fetch.state)) h
   meeting g Dangling answer h = absurd h
 

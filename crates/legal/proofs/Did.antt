@@ -23,17 +23,18 @@ use Rattle.machine.specs.declared.event.Event.TheVariants as event
 use Rattle.machine.specs.declared.reply.Reply.{Reply}
 use Rattle.machine.specs.declared.reply.Reply.TheVariants as reply
 use Rattle.machine.specs.Slots.{Changes, there_and}
-use Rattle.machine.specs.Pages.{in_transfer_at, Content, Memory, OfFile, Residence, Held, Coming, Going, Away, Page, page_at, file_page, home_block, is_anon, frame_at, block_at, ticket_at, is_frame_taken, is_ticket_taken}
+use Rattle.machine.specs.Pages.{in_transfer_at, Content, Memory, OfFile, Residence, Held, Coming, Going, Away, Page, page_at, file_page, home_block, is_anon, frame_at, is_some_number, block_at, ticket_at, is_frame_taken, is_ticket_taken}
 use Rattle.machine.specs.declared.record.EventCounts.{EventCounts}
 use Rattle.machine.specs.Counts.{no_limits, no_counts}
 use Rattle.machine.specs.Tasks.{PageTables, mapped_at, mappers, Shows, Copies, ShowsNothing, SetsTask, task_at, is_live_life, is_live_task, lives, group_of, group_of_task}
 use Rattle.machine.specs.State.{State, page_numbers, over_in, is_frame_free}
-use Rattle.machine.specs.Access.{Meeting, Unmapped, Hits, Transferring, NeedsPage, NeedsCopy, NeedsSwapIn, NeedsRead, Dangling, page_size, is_place, meets}
+use Rattle.machine.specs.Access.{Meeting, Unmapped, Hits, Transferring, NeedsPage, NeedsCopy, NeedsSwapIn, NeedsRead, Dangling, page_size, is_place, meets, charged_from_swap}
 use Rattle.machine.specs.Refusals.{first_cause, life_refusal, task_refusal, refusal}
 use Rattle.machine.specs.declared.refusal.Refusal.TheVariants.{BadPlace}
 use Rattle.machine.specs.Reclaim.{counted_at_take, has_takeable, has_transfer, stands, target_of}
 use Rattle.machine.specs.Step.{ChargeStep, IsFreeBlock, MakesPage, StartsFetch, ReadsFile, HitStep, UnmappedStep, MeetStep, LifeStep, TaskStep, Takes, StartsLeave, LeavesBy, LeavesFrom, ReclaimStep, KillStep, RelieveStep, Frees, Removes, EndsTasks, EndsTransfer, in_frame, on_block, new_node, new_page, with_setting, Step}
 use Rattle.machine.proofs.Values.{some_inj, never_some, unlike}
+use Rattle.page_lists.proofs.RegroupedLemmas.{swap-either}
 use Rattle.legal.proofs.MoveLemmas.{MayGo, MayStay, Met, met, MetFile, met_file, Settled, hits_held, swaps_away, in_frame-cases, on_block-cases, in_frame-memory, on_block-memory}
 
 -- ---- ends of tasks
@@ -94,6 +95,16 @@ pub data Moves (old : State) (what : Event) (answer : Reply) (page : Page) (dirt
   Lies : (frame block : ℕ) → is_out answer ≡ false → frame_at page.residence ≡ Some frame → block_at page.residence ≡ Some block → now ≡ Away block → dirty ≡ page.dirty → is_anon page.content ≡ true
       → Moves old what answer page dirty now
 
+-- whose a page is that was written to, or stands elsewhere: whose it was; or an access of a live task reads it in, and it is the group's of the task
+pub data ChargedTo (old : State) (what : Event) (page : Page) (g : ℕ) : Type 0 where
+  ItsOwn : g ≡ page.group → ChargedTo old what page g
+  ItsReaders : (t block : ℕ) → is_access what ≡ true → lives old.tasks t ≡ true → page.residence ≡ Away block → g ≡ group_of_task old.tasks t → ChargedTo old what page g
+
+-- a page that has a frame is whose it was
+pub same_group : (old : State) (what : Event) (page : Page) (g : ℕ) → is_some_number (frame_at page.residence) ≡ true → ChargedTo old what page g → g ≡ page.group
+same_group old what page g framed (ItsOwn same) = same
+same_group old what page g framed (ItsReaders t block access alive away reads) = unlike (is_some_number (frame_at page.residence)) framed (ap (λ (r : Residence). is_some_number (frame_at r)) away)
+
 -- a page of a file that was read in, or is being read in, for a group
 abbrev pub read_page : ℕ → ℕ → ℕ → Residence → Page
 read_page g f q r = record { content = OfFile f q; group = g; dirty = false; residence = r }
@@ -117,8 +128,8 @@ pub data Did (old : State) (what : Event) (answer : Reply) (new : State) : Type 
       → Changes old.pages new.pages p (Some (new_page (group_of_task old.tasks t) frame)) → Shows old.page_tables new.page_tables t v (Some p)
       → new ≡ record old { pages = new.pages; page_tables = new.page_tables } → Did old what answer new
   -- one page was written to, or stands elsewhere: in the end of a transfer it was of a file, or something maps it
-  Moved : (p : ℕ) (page : Page) (dirty : Bool) (now : Residence) (counted : List EventCounts) → page_at old.pages p ≡ Some page
-      → Changes old.pages new.pages p (Some (record { content = page.content; group = page.group; dirty = dirty; residence = now })) → Moves old what answer page dirty now → (in_transfer_at page.residence ≡ true → MayStay old.page_tables p page)
+  Moved : (p : ℕ) (page : Page) (g : ℕ) (dirty : Bool) (now : Residence) (counted : List EventCounts) → page_at old.pages p ≡ Some page → ChargedTo old what page g
+      → Changes old.pages new.pages p (Some (record { content = page.content; group = g; dirty = dirty; residence = now })) → Moves old what answer page dirty now → (in_transfer_at page.residence ≡ true → MayStay old.page_tables p page)
       → new ≡ record old { pages = new.pages; counted = counted } → Did old what answer new
   -- an access of a live task reads a page of a file in, charged to its group; an access that nothing refuses is of a page that the file has
   Cached : (t f q p frame ticket : ℕ) → is_access what ≡ true → is_out answer ≡ false → lives old.tasks t ≡ true → file_page old.pages f q ≡ None → p < page_numbers old.opening → page_at old.pages p ≡ None
@@ -139,7 +150,7 @@ pub data Did (old : State) (what : Event) (answer : Reply) (new : State) : Type 
   Freed : (t : TaskId) (v : ℕ) → what ≡ event.Free t v → is_out answer ≡ false → lives old.tasks t.0 ≡ true → Frees old t.0 v answer new → Did old what answer new
   -- a task is in another group
   Attached : (t : TaskId) (g : GroupId) → what ≡ event.Attach t g → is_out answer ≡ false → SetsTask old.tasks t.0 g.0 Live new.tasks → new ≡ record old { tasks = new.tasks } → Did old what answer new
-  -- a group is removed, and its pages are its parent's
+  -- a group is removed, and its pages are its parent's, or by Linux's placement on their blocks the root's
   Removed : (g : GroupId) → what ≡ event.Rmdir g → is_out answer ≡ false → Removes old g.0 new → Did old what answer new
   -- a group more
   Grown : (path : List ℕ) → what ≡ event.Mkdir path → is_out answer ≡ false → new ≡ record old { tree = old.tree ++ new_node old.tree path ∷ []; limits = old.limits ++ no_limits ∷ []; flags = old.flags ++ Single ∷ []; counted = old.counted ++ no_counts ∷ [] } → Did old what answer new
@@ -176,7 +187,7 @@ module _ (old new : State) (what : Event) where
 
     hit : (p frame : ℕ) (page : Page) (op : Op) (answer : Reply) → page_at old.pages p ≡ Some page → page.residence ≡ Held frame → HitStep old p page frame op answer new → Did old what answer new
     hit p frame page Read (reply.Done byte at) there held h = same _ h.1
-    hit p frame page (Write b) (reply.Done byte at) there held h = Moved p page _ page.residence old.counted there h.2 (Rests refl (stays_clean page.content) stays_dirty) (λ moving. unlike (in_transfer_at page.residence) moving (ap in_transfer_at held)) h.3
+    hit p frame page (Write b) (reply.Done byte at) there held h = Moved p page page.group _ page.residence old.counted there (ItsOwn refl) h.2 (Rests refl (stays_clean page.content) stays_dirty) (λ moving. unlike (in_transfer_at page.residence) moving (ap in_transfer_at held)) h.3
       where
         -- a write to memory leaves it as it was, and one to a page of a file makes it dirty
         stays_clean : (content : Content) → is_anon content ≡ true → (not (is_anon content) || page.dirty) ≡ page.dirty
@@ -194,9 +205,16 @@ module _ (old new : State) (what : Event) where
     makes : (t v : ℕ) (op : Op) (answer : Reply) → lives old.tasks t ≡ true → WasShared old t v → MakesPage old t v (group_of_task old.tasks t) op answer new → Did old what answer new
     makes t v op answer alive shared h = Made t v h.page h.frame access (ap is_out h.answers) alive shared h.in_range h.slot_free h.frame_free.unused h.placed h.shown h.state
 
-    fetches : (p : ℕ) (page : Page) (block : ℕ) (answer : Reply) → page_at old.pages p ≡ Some page → page.residence ≡ Away block → StartsFetch old p page.group page.content block answer new → Did old what answer new
-    fetches p page block answer there away h =
-        Moved p page false _ old.counted there h.placed (Comes h.frame block h.ticket access (ap is_out h.answers) away refl refl h.frame_free.unused h.ticket_free)
+    -- whom a page is charged to that a live task reads in from its swap block
+    charged_to : (t block : ℕ) (page : Page) → lives old.tasks t ≡ true → page.residence ≡ Away block
+        → ChargedTo old what page (charged_from_swap old.opening.placement page.group (group_of_task old.tasks t))
+    charged_to t block page alive away =
+        elim (swap-either old.opening.placement page.group (group_of_task old.tasks t)) [ inl own ↦ ItsOwn own | inr reads ↦ ItsReaders t block access alive away reads ]
+
+    fetches : (p g : ℕ) (page : Page) (block : ℕ) (answer : Reply) → page_at old.pages p ≡ Some page → page.residence ≡ Away block → ChargedTo old what page g
+        → StartsFetch old p g page.content block answer new → Did old what answer new
+    fetches p g page block answer there away whose h =
+        Moved p page g false _ old.counted there whose h.placed (Comes h.frame block h.ticket access (ap is_out h.answers) away refl refl h.frame_free.unused h.ticket_free)
         (λ moving. unlike (in_transfer_at page.residence) moving (ap in_transfer_at away)) h.state
 
     meeting : (t v o : ℕ) (op : Op) (answer : Reply) (met : Meeting) → lives old.tasks t ≡ true → meets old t (Virtual v o) op ≡ met → MeetStep old t (group_of_task old.tasks t) op met answer new
@@ -210,7 +228,9 @@ module _ (old new : State) (what : Event) where
     meeting t v o op answer (NeedsCopy w) alive is h =
         let found : Met old t v op (NeedsCopy w) = subst (Met old t v op) is (met old t v o op) in
         charged _ _ answer (makes t w op answer alive (λ q at. ap (λ (p : ℕ). nat_lt 1 (mappers old.page_tables p)) (some_inj (sym at ∙ ap (mapped_at old.page_tables t) found.0 ∙ found.4)) ∙ found.7)) h
-    meeting t v o op answer (NeedsSwapIn p page block) alive is h = let found = swaps_away old t v o op p page block is in charged page.group _ answer (fetches p page block answer found.0 found.1) h
+    meeting t v o op answer (NeedsSwapIn p page block) alive is h =
+        let found = swaps_away old t v o op p page block is in
+        charged _ _ answer (fetches p _ page block answer found.0 found.1 (charged_to t block page alive found.1)) h
     meeting t v o op answer (NeedsRead f q) alive is h = absurd (subst (Met old t v op) is (met old t v o op))
     meeting t v o op answer Dangling alive is h = absurd h
 
@@ -252,7 +272,7 @@ module _ (old new : State) (what : Event) where
 
   sent : (p frame block : ℕ) (page : Page) (counted : List EventCounts) (answer : Reply) → page_at old.pages p ≡ Some page → page.residence ≡ Held frame → GoesTo old page block page.content
       → StartsLeave old p page frame block counted answer new → Did old what answer new
-  sent p frame block page counted answer there held goes h = Moved p page page.dirty _ counted there h.placed (Goes frame block h.ticket held refl refl goes h.ticket_free)
+  sent p frame block page counted answer there held goes h = Moved p page page.group page.dirty _ counted there (ItsOwn refl) h.placed (Goes frame block h.ticket held refl refl goes h.ticket_free)
       (λ moving. unlike (in_transfer_at page.residence) moving (ap in_transfer_at held)) h.state
 
   leaves_by : (p frame : ℕ) (page : Page) (content : Content) (counted : List EventCounts) (answer : Reply) → page_at old.pages p ≡ Some page → page.residence ≡ Held frame → page.content ≡ content
@@ -300,7 +320,7 @@ module _ (old new : State) (what : Event) where
       elim (cases old.page_tables h.p h.page h.frame h.block) [
         | inl none ↦ Dropped h.p h.page old.counted (ap is_out h.answers) h.there none.1 (went h.p h.page h.frame h.block h.moves none.0) (subst (Changes old.pages new.pages h.p) none.0 h.placed) h.state
         | inr some ↦
-            Moved h.p h.page h.page.dirty (settled h.frame h.block) old.counted h.there (subst (Changes old.pages new.pages h.p) some.0 h.placed)
+            Moved h.p h.page h.page.group h.page.dirty (settled h.frame h.block) old.counted h.there (ItsOwn refl) (subst (Changes old.pages new.pages h.p) some.0 h.placed)
             (moves (ap is_out h.answers) h.p h.page h.frame h.block h.moves some.0) (λ moving. some.1) h.state
       ]
 

@@ -35,7 +35,7 @@ use Rattle.machine.specs.History.{Spot, InTask, is_spot, Byte, As, Nothing, says
 use Rattle.machine.proofs.Values.{some_inj, never_some, unlike}
 use Rattle.machine.proofs.TreeLemmas.{eq_cases}
 use Rattle.machine.proofs.MappingLemmas.{by_place, copies-cases, mapped_at-one, shows_nothing-was}
-use Rattle.machine.proofs.RemovedLemmas.{regrouped-was}
+use Rattle.page_lists.proofs.RegroupedLemmas.{regrouped-was}
 use Rattle.legal.proofs.FileSteps.{AreFiled, FilesGo, files_go}
 use Rattle.legal.proofs.ShownLemmas.{ShowsPages}
 use Rattle.legal.proofs.MoveLemmas.{Met, met, MetFile, met_file, Settled, in_frame-cases, on_block-cases}
@@ -458,9 +458,9 @@ module _ (old new : State) (alive : AllLive old.page_tables old.tasks) (shows : 
         }
 
     -- a page begins to be read in
-    fetches : (p block : ℕ) (page : Page) (answer : Reply) → mapped_at old.page_tables t.0 v ≡ Some p → page_at old.pages p ≡ Some page → page.residence ≡ Away block
-        → StartsFetch old p page.group page.content block answer new → Accessed t (Virtual v o) op answer
-    fetches p block page answer mapped there away h =
+    fetches : (p g block : ℕ) (page : Page) (answer : Reply) → mapped_at old.page_tables t.0 v ≡ Some p → page_at old.pages p ≡ Some page → page.residence ≡ Away block
+        → StartsFetch old p g page.content block answer new → Accessed t (Virtual v o) op answer
+    fetches p g block page answer mapped there away h =
         one_page _ answer p _ h.state h.placed (inl (ap ticket_in there ∙ ap ticket_at away))
         (ItFetches
         (record {
@@ -488,7 +488,7 @@ module _ (old new : State) (alive : AllLive old.page_tables old.tasks) (shows : 
     meets_so g answer Transferring lives_t known h = undone t (Virtual v o) op answer reply.Busy h.0 refl refl h.1
     meets_so g answer (NeedsPage w) lives_t known h = charged t (Virtual v o) op g _ answer (λ made. makes g answer lives_t (subst (λ (x : ℕ). MakesPage old t.0 x g op answer new) known.0 made)) h
     meets_so g answer (NeedsCopy w) lives_t known h = charged t (Virtual v o) op g _ answer (λ made. makes g answer lives_t (subst (λ (x : ℕ). MakesPage old t.0 x g op answer new) known.0 made)) h
-    meets_so g answer (NeedsSwapIn p page block) lives_t known h = charged t (Virtual v o) op page.group _ answer (fetches p block page answer known.0 known.1 known.2) h
+    meets_so g answer (NeedsSwapIn p page block) lives_t known h = charged t (Virtual v o) op _ _ answer (fetches p _ block page answer known.0 known.1 known.2) h
     meets_so g answer (NeedsRead f q) lives_t known h = absurd known
     meets_so g answer Dangling lives_t known h = absurd h
 
@@ -749,9 +749,9 @@ module _ (old new : State) (alive : AllLive old.page_tables old.tasks) (shows : 
   removes g h =
       record {
         pages = record {
-          stays = λ p n page there ticket other. (regrouped g.0 h.parent page, h.pages p ∙ ap (option_map (regrouped g.0 h.parent)) there, refl);
+          stays = λ p n page there ticket other. (regrouped old.opening.placement g.0 h.parent page, h.pages p ∙ ap (option_map (regrouped old.opening.placement g.0 h.parent)) there, refl);
           stood = λ p page there.
-              let was = regrouped-was g.0 h.parent (page_at old.pages p) page (sym (h.pages p) ∙ there) in
+              let was = regrouped-was old.opening.placement g.0 h.parent (page_at old.pages p) page (sym (h.pages p) ∙ there) in
               ItStays (record { before = was.0; there = was.1; same = ap (λ (x : Page). x.residence) was.2; content = ap (λ (x : Page). x.content) was.2 });
         };
         places = places_same (event.Rmdir g) reply.Ok (ap (λ (s : State). s.page_tables) h.state) (ap (λ (s : State). s.tasks) h.state) (λ t v o. refl);

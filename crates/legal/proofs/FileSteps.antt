@@ -226,7 +226,7 @@ module _ (old new : State) (files : AreFiled old) where
   did_home what answer (Kept limits flags counted e) f q = home_same what f q (slots_same f q (ap (λ (s : State). s.pages) e))
   did_home what answer (Made t v p frame access out alive shared within free unused placed shown e) f q =
       home_one what p _ f q placed (λ before after. absurd (let wrong : false ≡ true = after in cc)) (λ page there holds. never_some (page_at old.pages p) free there)
-  did_home what answer (Moved p page dirty now counted there placed moves mapped e) f q =
+  did_home what answer (Moved p page to dirty now counted there whose placed moves mapped e) f q =
       home_one what p _ f q placed
       (λ before after. unlike (is_page_of f q page.content) after (sym (ap (holds_page f q) there) ∙ before))
       (λ page' there' holds home.
@@ -281,11 +281,11 @@ module _ (old new : State) (files : AreFiled old) where
   did_home what answer (Attached t g is out sets e) f q = home_same what f q (slots_same f q (ap (λ (s : State). s.pages) e))
   did_home what answer (Removed g is out removes) f q = λ home. inl (sym homes ∙ home)
     where
-      holds_as : (slot : Option Page) → holds_page f q (option_map (regrouped g.0 removes.parent) slot) ≡ holds_page f q slot
+      holds_as : (slot : Option Page) → holds_page f q (option_map (regrouped old.opening.placement g.0 removes.parent) slot) ≡ holds_page f q slot
       holds_as None = refl
       holds_as (Some page) = refl
 
-      home_as : (slot : Option Page) → is_home (option_map (regrouped g.0 removes.parent) slot) ≡ is_home slot
+      home_as : (slot : Option Page) → is_home (option_map (regrouped old.opening.placement g.0 removes.parent) slot) ≡ is_home slot
       home_as None = refl
       home_as (Some page) = refl
 
@@ -327,7 +327,7 @@ module _ (old new : State) where
   did_contents : (what : Event) (answer : Reply) → Did old what answer new → (p : ℕ) → Contents p
   did_contents what answer (Kept limits flags counted e) = contents_same (ap (λ (s : State). s.pages) e)
   did_contents what answer (Made t v p frame access out alive shared within free unused placed shown e) = contents_one p _ placed (λ before page was is. never_some (page_at old.pages p) free was)
-  did_contents what answer (Moved p page dirty now counted there placed moves mapped e) =
+  did_contents what answer (Moved p page to dirty now counted there whose placed moves mapped e) =
       contents_one p _ placed (λ before after was is. ap (λ (x : Page). x.content) (sym (some_inj is)) ∙ ap (λ (x : Page). x.content) (some_inj (sym there ∙ was)))
   did_contents what answer (Cached t f q p frame ticket access out alive unread within free unused fresh filed placed e) = contents_one p _ placed (λ before page was is. never_some (page_at old.pages p) free was)
   did_contents what answer (Dropped p page counted out there may_go went gone e) = contents_one p None gone (λ before after was is. cc)
@@ -337,7 +337,7 @@ module _ (old new : State) where
   did_contents what answer (Freed t v is out alive frees) = contents_still new.page_tables frees.pages
   did_contents what answer (Attached t g is out sets e) = contents_same (ap (λ (s : State). s.pages) e)
   did_contents what answer (Removed g is out removes) = λ p before page was after.
-      ap (λ (x : Page). x.content) (some_inj (sym after ∙ removes.pages p ∙ ap (option_map (regrouped g.0 removes.parent)) was))
+      ap (λ (x : Page). x.content) (some_inj (sym after ∙ removes.pages p ∙ ap (option_map (regrouped old.opening.placement g.0 removes.parent)) was))
   did_contents what answer (Grown path is out e) = contents_same (ap (λ (s : State). s.pages) e)
 
 -- ---- arrivals
@@ -381,7 +381,7 @@ module _ (old new : State) (what : Event) where
   did_filled : (answer : Reply) → Did old what answer new → (p : ℕ) → Filled p
   did_filled answer (Kept limits flags counted e) = filled_same (ap (λ (s : State). s.pages) e)
   did_filled answer (Made t v p frame access out alive shared within free unused placed shown e) = filled_one p _ placed (λ f b n before page was is coming filled. never_some (page_at old.pages p) free was)
-  did_filled answer (Moved p page dirty now counted there placed moves mapped e) =
+  did_filled answer (Moved p page to dirty now counted there whose placed moves mapped e) =
       filled_one p _ placed
       (λ f b n before after was is coming filled.
       moves_filled answer page dirty now moves f b n (ap (λ (x : Page). x.residence) (some_inj (sym there ∙ was)) ∙ coming) (ap (λ (x : Page). is_filled_at x.residence) (some_inj is) ∙ filled))
@@ -393,7 +393,7 @@ module _ (old new : State) (what : Event) where
   did_filled answer (Freed t v is out alive frees) = filled_still new.page_tables frees.pages
   did_filled answer (Attached t g is out sets e) = filled_same (ap (λ (s : State). s.pages) e)
   did_filled answer (Removed g is out removes) = λ p frame block n before page was after coming filled.
-      unfilled frame block n before.residence page.residence (ap (λ (x : Page). x.residence) (some_inj (sym after ∙ removes.pages p ∙ ap (option_map (regrouped g.0 removes.parent)) was))) coming filled
+      unfilled frame block n before.residence page.residence (ap (λ (x : Page). x.residence) (some_inj (sym after ∙ removes.pages p ∙ ap (option_map (regrouped old.opening.placement g.0 removes.parent)) was))) coming filled
   did_filled answer (Grown path is out e) = filled_same (ap (λ (s : State). s.pages) e)
 
 -- ---- what is said of files

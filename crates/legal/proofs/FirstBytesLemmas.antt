@@ -161,7 +161,7 @@ module _ (old new : State) where
   did_empty what answer (Kept limits flags counted e) = empty_same (ap (λ (s : State). s.pages) e)
   did_empty what answer (Made t v p frame access out alive shared within free unused placed shown e) =
       empty_one p _ placed (λ page none is of_file. unlike (is_anon page.content) (ap (λ (x : Page). is_anon x.content) (sym (some_inj is))) of_file)
-  did_empty what answer (Moved p page dirty now counted there placed moves mapped e) = empty_one p _ placed (λ after none is of_file. never_some (page_at old.pages p) none there)
+  did_empty what answer (Moved p page to dirty now counted there whose placed moves mapped e) = empty_one p _ placed (λ after none is of_file. never_some (page_at old.pages p) none there)
   did_empty what answer (Cached t f q p frame ticket access out alive unread within free unused fresh filed placed e) =
       empty_one p _ placed (λ page none is of_file. ap (λ (x : Page). is_filled_at x.residence) (sym (some_inj is)))
   did_empty what answer (Dropped p page counted out there may_go went gone e) = empty_one p None gone (λ after none is of_file. cc)
@@ -171,7 +171,7 @@ module _ (old new : State) where
   did_empty what answer (Freed t v is out alive frees) = empty_still new.page_tables frees.pages
   did_empty what answer (Attached t g is out sets e) = empty_same (ap (λ (s : State). s.pages) e)
   did_empty what answer (Removed g is out removes) = λ p page none after of_file.
-      never_some (page_at new.pages p) (removes.pages p ∙ ap (option_map (regrouped g.0 removes.parent)) none) after
+      never_some (page_at new.pages p) (removes.pages p ∙ ap (option_map (regrouped old.opening.placement g.0 removes.parent)) none) after
   did_empty what answer (Grown path is out e) = empty_same (ap (λ (s : State). s.pages) e)
 
 -- ---- arrivals

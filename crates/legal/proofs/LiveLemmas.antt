@@ -105,7 +105,7 @@ module _ (old new : State) (what : Event) (answer : Reply) where
   did_live : Did old what answer new → live_tasks new.tasks ≤ live_tasks old.tasks + 1
   did_live (Kept limits flags counted e) = same_tasks (ap (λ (s : State). s.tasks) e)
   did_live (Made t v p frame access out alive shared within free unused placed shown e) = same_tasks (ap (λ (s : State). s.tasks) e)
-  did_live (Moved p page dirty now counted there placed moves mapped e) = same_tasks (ap (λ (s : State). s.tasks) e)
+  did_live (Moved p page to dirty now counted there whose placed moves mapped e) = same_tasks (ap (λ (s : State). s.tasks) e)
   did_live (Cached t f q p frame ticket access out alive unread within free unused fresh filed placed e) = same_tasks (ap (λ (s : State). s.tasks) e)
   did_live (Dropped p page counted out there may_go went gone e) = same_tasks (ap (λ (s : State). s.tasks) e)
   did_live (Ended is_gone ending counted out dead ends) = let less = live-ended-le dead ends in omega (arith, less)

@@ -4,19 +4,25 @@ use Rattle.std.proofs.lemmas.Bool.Decides.{nat_tests}
 use Rattle.machine.specs.declared.event.Event.{Event}
 use Rattle.machine.specs.declared.reply.Reply.{Reply}
 use Rattle.machine.specs.declared.entry.Entry.{Entry}
+use Rattle.machine.specs.declared.refusal.Refusal.{Refusal}
+use Rattle.machine.specs.declared.refusal.Refusal.TheVariants.{Busy, NoEntry}
+use Rattle.machine.specs.declared.record.Life.{Life}
+use Rattle.machine.specs.declared.record.Life.TheVariants.{Live, Exited, Killed}
+use Rattle.machine.specs.declared.record.Task.{Task}
+use Rattle.machine.specs.Tree.{is_live}
 use Rattle.machine.proofs.SlotLemmas.{one_if}
 use Rattle.machine.specs.Slots.{Changes, there_and}
 use Rattle.machine.specs.Pages.{is_number, Page, Pages, page_at, is_anon, in_transfer_at}
-use Rattle.machine.specs.Tasks.{PageTables, task_at, is_live_task, lives, mapped_at, mappers}
+use Rattle.machine.specs.Tasks.{PageTables, task_at, is_live_life, is_live_task, lives, mapped_at, mappers}
 use Rattle.machine.specs.State.{Opening, State}
-use Rattle.machine.specs.Refusals.{refusal}
+use Rattle.machine.specs.Refusals.{first_cause, number_refusal, life_refusal, task_refusal, spawn_refusal, bars_tasks, refusal}
 use Rattle.machine.specs.Step.{still}
 use Rattle.machine.specs.Legal.{Legal}
 use Rattle.machine.proofs.Values.{some_inj, unlike}
 use Rattle.machine.proofs.TreeLemmas.{eq_cases}
-use Rattle.machine.proofs.TaskLemmas.{spawn_unused, fork_unused}
+use Rattle.machine.proofs.TaskLemmas.{not_used}
 use Rattle.machine.proofs.MappingLemmas.{Mapper, mappers_some, mapped_at-mappers, mappers-shows, shown_once}
-use Rattle.machine.proofs.RemovedLemmas.{regrouped-was}
+use Rattle.page_lists.proofs.RegroupedLemmas.{regrouped-was}
 use Rattle.legal.proofs.Did.{Did, Kept, Made, Moved, Cached, Dropped, Ended, Spawned, Forked, Freed, Attached, Removed, Grown, step_did}
 use Rattle.legal.proofs.Effects.{AllLive}
 use Rattle.legal.proofs.SharedLemmas.{legal-live}
@@ -25,6 +31,26 @@ use Rattle.legal.proofs.SharedLemmas.{legal-live}
 numbered : (shown : Option ℕ) (q : ℕ) → is_number shown q ≡ true → shown ≡ Some q
 numbered None q is = cc
 numbered (Some n) q is = ap (λ (x : ℕ). Some x) (eqb-true n q is)
+
+-- ---- numbers of new tasks
+
+-- of two causes the second is none either
+after_cause : (b : Bool) (cause : Refusal) (others : Option Refusal) → first_cause b cause others ≡ None → others ≡ None
+after_cause true cause others e = cc
+after_cause false cause others e = e
+
+-- a new task's number is no task's
+pub spawn_unused : (s : State) (t g : ℕ) → spawn_refusal s t g ≡ None → task_at s.tasks t ≡ None
+spawn_unused s t g none = not_used s.tasks t (after_cause (bars_tasks s.tree g) Busy _ (after_cause (not (is_live s.tree g)) NoEntry _ none))
+
+pub fork_unused : (s : State) (slot : Option Task) (child : ℕ) → there_and is_live_task slot ≡ true → task_refusal slot (number_refusal s.tasks child) ≡ None → task_at s.tasks child ≡ None
+fork_unused s None child lives_on none = cc
+fork_unused s (Some task) child lives_on none = by_life task.life lives_on none
+  where
+    by_life : (life : Life) → is_live_life life ≡ true → life_refusal life (number_refusal s.tasks child) ≡ None → task_at s.tasks child ≡ None
+    by_life Live is e = not_used s.tasks child e
+    by_life Exited is e = cc
+    by_life Killed is e = cc
 
 -- ---- steps
 
@@ -91,13 +117,13 @@ module _ (old new : State) (alive : AllLive old.page_tables old.tasks) (mapped :
               let counts = mappers-shows old.page_tables new.page_tables t v q (Some p) shown in
               let here : shown_once (mapped_at old.page_tables t v) q ≡ 0 = ap one_if is in
               omega (arith, counts, here, one)
-  did_mapped what answer none (Moved p page dirty now counted there placed moves stays e) = one_mapped p _ placed (ap (λ (s : State). s.page_tables) e) here
+  did_mapped what answer none (Moved p page to dirty now counted there whose placed moves stays e) = one_mapped p _ placed (ap (λ (s : State). s.page_tables) e) here
     where
       by_flight : (b : Bool) → in_transfer_at page.residence ≡ b → is_anon page.content ≡ true → 1 ≤ mappers old.page_tables p
       by_flight true moving memory = (let some = stays moving memory in grind (arith, nat_tests))
       by_flight false settled memory = mapped p page there memory settled
 
-      here : (after : Page) → Some (record { content = page.content; group = page.group; dirty = dirty; residence = now }) ≡ Some after → is_anon after.content ≡ true → in_transfer_at after.residence ≡ false
+      here : (after : Page) → Some (record { content = page.content; group = to; dirty = dirty; residence = now }) ≡ Some after → is_anon after.content ≡ true → in_transfer_at after.residence ≡ false
           → 1 ≤ mappers old.page_tables p
       here after is memory settled = by_flight (in_transfer_at page.residence) refl (ap (λ (x : Page). is_anon x.content) (some_inj is) ∙ memory)
   did_mapped what answer none (Cached t f q p frame ticket access out lives_t unread within free unused fresh filed placed e) =
@@ -114,7 +140,7 @@ module _ (old new : State) (alive : AllLive old.page_tables old.tasks) (mapped :
     where
       removed : AreMapped new.page_tables new.pages
       removed p page there memory settled =
-          let was = regrouped-was g.0 removes.parent (page_at old.pages p) page (sym (removes.pages p) ∙ there) in
+          let was = regrouped-was old.opening.placement g.0 removes.parent (page_at old.pages p) page (sym (removes.pages p) ∙ there) in
           subst (λ (tables : PageTables). 1 ≤ mappers tables p) (sym (ap (λ (s : State). s.page_tables) removes.state))
           (mapped p was.0 was.1 (sym (ap (λ (x : Page). is_anon x.content) was.2) ∙ memory) (sym (ap (λ (x : Page). in_transfer_at x.residence) was.2) ∙ settled))
   did_mapped what answer none (Grown path is out e) = same_mapped (ap (λ (s : State). s.pages) e) (ap (λ (s : State). s.page_tables) e)

@@ -34,13 +34,14 @@ use Rattle.machine.specs.Pages.{Page, page_at}
 use Rattle.machine.specs.Counts.{Counted, is_full, over_at, no_counts, once_more, counts_at, with_event, local, is_key, how_often, count_of, with_events}
 use Rattle.machine.specs.Tasks.{Tasks, task_at, is_live_life, is_live_task, lives, group_of, group_of_task}
 use Rattle.machine.specs.State.{Opening, State, first_state, usage, over_in, is_frame_free}
-use Rattle.machine.specs.Access.{Meeting, Unmapped, Hits, Transferring, NeedsPage, NeedsCopy, NeedsSwapIn, NeedsRead, Dangling, meets}
+use Rattle.machine.specs.Access.{Meeting, Unmapped, Hits, Transferring, NeedsPage, NeedsCopy, NeedsSwapIn, NeedsRead, Dangling, meets, charged_from_swap}
 use Rattle.machine.specs.Reclaim.{has_open, stands, target_of}
 use Rattle.machine.specs.Victim.{is_live_under, is_candidate, is_flagged, chain_to, kill_group, counts_of_killed, counts_of_victim}
 use Rattle.machine.specs.Step.{ChargeStep, HitStep, MeetStep, LifeStep, TaskStep, new_node, Step}
 use Rattle.machine.specs.Legal.{Extends, Legal}
 use Rattle.machine.specs.Events.{counts_named, took_for, low_named, NamesFor, Names, AreCounted, for_groups}
 use Rattle.machine.proofs.Values.{some_inj, unlike}
+use Rattle.page_lists.proofs.RegroupedLemmas.{swap-either}
 use Rattle.machine.proofs.TreeLemmas.{lt_cases, parent_in, over_at-None, over_at-step}
 use Rattle.counts.proofs.CountLemmas.{count_of_key-none, local-event, local-push}
 use Rattle.legal.proofs.OpeningLemmas.{tree_after, step_tree}
@@ -181,8 +182,14 @@ module _ (opening : Opening) (history : List Entry) (old new : State) (legal : L
     meets_virtual v o g Transferring is live h = absurd (let e = h.0 in cc)
     meets_virtual v o g (NeedsPage w) is live h = charged g _ live (λ k. let e = k.answers in cc) h
     meets_virtual v o g (NeedsCopy w) is live h = charged g _ live (λ k. let e = k.answers in cc) h
-    meets_virtual v o g (NeedsSwapIn p page block) is live h =
-        charged page.group _ (legal-fit opening history old legal p page (swaps_away old t v o op p page block is).0).live (λ k. let e = k.answers in cc) h
+    meets_virtual v o g (NeedsSwapIn p page block) is live h = charged _ _ there (λ k. let e = k.answers in cc) h
+      where
+        there : is_live old.tree (charged_from_swap old.opening.placement page.group g) ≡ true
+        there =
+            elim (swap-either old.opening.placement page.group g) [
+              | inl own ↦ ap (is_live old.tree) own ∙ (legal-fit opening history old legal p page (swaps_away old t v o op p page block is).0).live
+              | inr reads ↦ ap (is_live old.tree) reads ∙ live
+            ]
     meets_virtual v o g (NeedsRead file q) is live h = charged g _ live (λ k. let e = k.fetch.answers in cc) h
     meets_virtual v o g Dangling is live h = absurd h
 

@@ -28,7 +28,7 @@ step_opening old what answer new step = by_case (step_did old new what answer st
     by_case : Did old what answer new → new.opening ≡ old.opening
     by_case (Kept limits flags counted e) = ap (λ (s : State). s.opening) e
     by_case (Made t v p frame access out alive shared within free unused placed shown e) = ap (λ (s : State). s.opening) e
-    by_case (Moved p page dirty now counted there placed moves mapped e) = ap (λ (s : State). s.opening) e
+    by_case (Moved p page to dirty now counted there whose placed moves mapped e) = ap (λ (s : State). s.opening) e
     by_case (Cached t f q p frame ticket access out alive unread within free unused fresh filed placed e) = ap (λ (s : State). s.opening) e
     by_case (Dropped p page counted out there may_go went gone e) = ap (λ (s : State). s.opening) e
     by_case (Ended is_gone ending counted out dead ends) = ap (λ (s : State). s.opening) ends.state
@@ -42,7 +42,7 @@ step_opening old what answer new step = by_case (step_did old new what answer st
 same_tree : (old new : State) (what : Event) (answer : Reply) → changes_groups what ≡ false → Did old what answer new → new.tree ≡ old.tree
 same_tree old new what answer other (Kept limits flags counted e) = ap (λ (s : State). s.tree) e
 same_tree old new what answer other (Made t v p frame access out alive shared within free unused placed shown e) = ap (λ (s : State). s.tree) e
-same_tree old new what answer other (Moved p page dirty now counted there placed moves mapped e) = ap (λ (s : State). s.tree) e
+same_tree old new what answer other (Moved p page to dirty now counted there whose placed moves mapped e) = ap (λ (s : State). s.tree) e
 same_tree old new what answer other (Cached t f q p frame ticket access out alive unread within free unused fresh filed placed e) = ap (λ (s : State). s.tree) e
 same_tree old new what answer other (Dropped p page counted out there may_go went gone e) = ap (λ (s : State). s.tree) e
 same_tree old new what answer other (Ended is_gone ending counted out dead ends) = ap (λ (s : State). s.tree) ends.state

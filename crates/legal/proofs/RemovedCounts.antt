@@ -15,12 +15,13 @@ use Rattle.machine.specs.Tree.{Node, no_node, node_at, is_live, under_at, under,
 use Rattle.machine.specs.Pages.{Page, page_at, has_frame, is_charged, charged, is_in_transfer, in_transfer}
 use Rattle.machine.specs.Counts.{total}
 use Rattle.machine.specs.State.{State, usage}
-use Rattle.machine.specs.Step.{regrouped, Removes, Step}
+use Rattle.machine.specs.Step.{heir, regrouped, Removes, Step}
 use Rattle.machine.specs.Generations.{Gens, row_of, gens_at, with_gens, taken_over, emptied, handed_over}
 use Rattle.machine.specs.Lists.{HeldLists, ListsHeld, AreGenerations}
 use Rattle.machine.proofs.Values.{never_some, unlike}
 use Rattle.machine.proofs.TreeLemmas.{eq_cases, under_at-None, under_at-step}
-use Rattle.machine.proofs.RemovedLemmas.{regrouped-test, without-parent, without-under, count-alike, usage-removed}
+use Rattle.machine.proofs.RemovedLemmas.{without-parent, without-under}
+use Rattle.page_lists.proofs.RegroupedLemmas.{count-regrouped, usage-removed}
 use Rattle.machine.proofs.SlotLemmas.{count_there-none}
 use Rattle.machine.proofs.TestLemmas.{tests-less}
 use Rattle.legal.proofs.SoundLemmas.{IsFit, IsSound}
@@ -70,8 +71,8 @@ usage-nobody swap files s g sound dead = count_there-none (is_charged s.tree g) 
 
 module _ (old new : State) (g : ℕ) (removes : Removes old g new) where
   -- as many pages as before pass a test that does not ask for their group
-  count-removed : (test : Page → Bool) → ((page : Page) → test (regrouped g removes.parent page) ≡ test page) → count_there test new.pages ≡ count_there test old.pages
-  count-removed test same = count-alike test test old.pages new.pages (λ n. ap (there_and test) (removes.pages n) ∙ regrouped-test test g removes.parent same (page_at old.pages n))
+  count-removed : (test : Page → Bool) → ((page : Page) → test (regrouped old.opening.placement g removes.parent page) ≡ test page) → count_there test new.pages ≡ count_there test old.pages
+  count-removed = count-regrouped old.opening.placement g removes.parent old.pages new.pages removes.pages
 
   -- as many transfers are in flight
   pub in_transfer-removed : in_transfer new.pages ≡ in_transfer old.pages
@@ -85,12 +86,12 @@ module _ (old new : State) (g : ℕ) (removes : Removes old g new) where
 
   module _ (falls : IsTree old.tree) where
     -- what is charged to the removed group now was so before
-    own-before : (slot : Option Page) → (now : Option Page) → now ≡ option_map (regrouped g removes.parent) slot → there_and (is_charged (without_group old.tree g) g) now ≡ true → there_and (is_charged old.tree g) slot ≡ true
+    own-before : (slot : Option Page) → (now : Option Page) → now ≡ option_map (regrouped old.opening.placement g removes.parent) slot → there_and (is_charged (without_group old.tree g) g) now ≡ true → there_and (is_charged old.tree g) slot ≡ true
     own-before None now e is = ap (there_and (is_charged (without_group old.tree g) g)) (sym e) ∙ is
     own-before (Some page) now e is = by_group (page.group == g) refl
       where
-        both : (has_frame page ≡ true) × (under (without_group old.tree g) g (cond (page.group == g) removes.parent page.group) ≡ true)
-        both = and_parts (has_frame page) (under (without_group old.tree g) g (cond (page.group == g) removes.parent page.group)) (ap (there_and (is_charged (without_group old.tree g) g)) (sym e) ∙ is)
+        both : (has_frame page ≡ true) × (under (without_group old.tree g) g (cond (page.group == g) (heir old.opening.placement removes.parent page.residence) page.group) ≡ true)
+        both = and_parts (has_frame page) (under (without_group old.tree g) g (cond (page.group == g) (heir old.opening.placement removes.parent page.residence) page.group)) (ap (there_and (is_charged (without_group old.tree g) g)) (sym e) ∙ is)
 
         by_group : (b : Bool) → (page.group == g) ≡ b → (has_frame page && under old.tree g page.group) ≡ true
         by_group true same =
@@ -98,7 +99,7 @@ module _ (old new : State) (g : ℕ) (removes : Removes old g new) where
             ∙ under_at-step old.tree falls g page.group ∙ ap (λ (b : Bool). b || under_at old.tree g (node_at old.tree page.group).parent) (eq-eqb g page.group (sym (eqb-true page.group g same)))
         by_group false other =
             ap (λ (b : Bool). b && under old.tree g page.group) both.0
-            ∙ sym (without-under old.tree g g (Some page.group)) ∙ ap (λ (b : Bool). under (without_group old.tree g) g (cond b removes.parent page.group)) (sym other) ∙ both.1
+            ∙ sym (without-under old.tree g g (Some page.group)) ∙ ap (λ (b : Bool). under (without_group old.tree g) g (cond b (heir old.opening.placement removes.parent page.residence) page.group)) (sym other) ∙ both.1
 
     -- no group's count rises
     pub usage-no_more : (a : ℕ) → usage new a ≤ usage old a
@@ -169,7 +170,7 @@ module _ (old new : State) (g : ℕ) (removes : Removes old g new) (falls : IsTr
   handed = record { groups = handed_over g removes.parent held.groups; marks = held.marks; hits = held.hits }
 
   pub held-removed : ListsHeld old.pages held → ListsHeld new.pages handed
-  held-removed were = held-handed old.pages new.pages held g removes.parent apart here there were removes.pages
+  held-removed were = held-handed old.opening.placement old.pages new.pages held g removes.parent apart here there were removes.pages
 
   pub generations-removed : ListsHeld old.pages held → AreGenerations held → AreGenerations handed
-  generations-removed were = generations-handed old.pages new.pages held g removes.parent apart here there were removes.pages
+  generations-removed were = generations-handed old.opening.placement old.pages new.pages held g removes.parent apart here there were removes.pages

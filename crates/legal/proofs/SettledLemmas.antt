@@ -272,7 +272,7 @@ module _ (old new new' : State) (order order' order'' : Order) where
   meeting t place g op answer answer' (NeedsCopy w) is h h' =
       let what = event.Access t place op in charged what answer answer' _ _ _ _ (makes what answer answer' t.0 w g op) h h'
   meeting t place g op answer answer' (NeedsSwapIn p page block) is h h' =
-      let what = event.Access t place op in charged what answer answer' _ _ _ _ (fetches what answer answer' p page.group block page.content) h h'
+      let what = event.Access t place op in charged what answer answer' _ _ _ _ (fetches what answer answer' p _ block page.content) h h'
   meeting t place g op answer answer' (NeedsRead f q) is h h' =
       let what = event.Access t place op in charged what answer answer' _ _ _ _ (reads what answer answer' f q g) h h'
   meeting t place g op answer answer' Dangling is h h' = absurd h

@@ -13,7 +13,7 @@ use Rattle.machine.specs.Legal.{Legal}
 use Rattle.machine.proofs.Values.{some_inj, never_some, unlike}
 use Rattle.machine.proofs.TreeLemmas.{eq_cases}
 use Rattle.machine.proofs.MappingLemmas.{mapped_at-mappers, shows-cases, copies-cases, shows_nothing-was}
-use Rattle.machine.proofs.RemovedLemmas.{regrouped-test}
+use Rattle.page_lists.proofs.RegroupedLemmas.{regrouped-test}
 use Rattle.legal.proofs.Did.{ends-was, Did, Kept, Made, Moved, Cached, Dropped, Ended, Spawned, Forked, Freed, Attached, Removed, Grown, step_did}
 
 -- a page that a place shows is there, and is memory
@@ -73,7 +73,7 @@ module _ (old new : State) (shows : ShowsMemory old) where
         | inl here ↦ (let same : q ≡ p = some_inj (sym at ∙ here) in ap (λ (x : ℕ). is_memory (page_at new.pages x)) same ∙ ap is_memory placed.changed)
         | inr was ↦ one_changes p _ placed (λ t' v' at'. refl) u w q (sym was ∙ at)
       ]
-  did_shows what answer (Moved p page dirty now counted there placed moves mapped e) u w q at =
+  did_shows what answer (Moved p page to dirty now counted there whose placed moves mapped e) u w q at =
       subst ShowsMemory (sym e) (one_changes p _ placed (λ t v at'. sym (ap is_memory there) ∙ shows t v p at')) u w q at
   did_shows what answer (Cached t f q p frame ticket access out alive unread within free unused fresh filed placed e) u w n at =
       subst ShowsMemory (sym e) (one_changes p _ placed (λ t v at'. unlike (is_memory (page_at old.pages p)) (shows t v p at') (ap is_memory free))) u w n at
@@ -95,7 +95,7 @@ module _ (old new : State) (shows : ShowsMemory old) where
       (elim (shows-cases old.page_tables new.page_tables t.0 v None frees.shown u w) [ inl none ↦ never_some (mapped_at new.page_tables u w) none at | inr was ↦ shows u w q (sym was ∙ at) ])
   did_shows what answer (Attached t g is out sets e) u w q at = subst ShowsMemory (sym e) shows u w q at
   did_shows what answer (Removed g is out removes) u w q at =
-      ap is_memory (removes.pages q) ∙ regrouped-test (λ page. is_anon page.content) g.0 removes.parent (λ page. refl) (page_at old.pages q)
+      ap is_memory (removes.pages q) ∙ regrouped-test (λ page. is_anon page.content) old.opening.placement g.0 removes.parent (λ page. refl) (page_at old.pages q)
       ∙ shows u w q (sym (ap (λ (s : State). mapped_at s.page_tables u w) removes.state) ∙ at)
   did_shows what answer (Grown path is out e) u w q at = subst ShowsMemory (sym e) shows u w q at
 

@@ -21,20 +21,21 @@ use Rattle.machine.specs.Slots.{at, Changes, there_and, count_there, any_there}
 use Rattle.machine.specs.Tree.{Node, no_node, root, node_at, is_live, is_parent, is_child, has_children, is_at_path, find_group, IsBelow, IsTree, without_group}
 use Rattle.machine.specs.Pages.{Content, Memory, OfFile, is_page_of, file_page, home_block, IsAtHome, IsFiledAs, IsFiled, is_anon, in_transfer_at, Residence, Held, Coming, Going, Away, Page, Pages, page_at, frame_at, block_at, ticket_at, is_number, has_this_frame, is_frame_taken, is_swap_taken, is_ticket_taken}
 use Rattle.machine.specs.declared.record.EventCounts.{EventCounts}
-use Rattle.machine.specs.Tasks.{is_live_in, has_tasks, Tasks, task_at, is_live_life, is_live_task, lives, group_of, group_of_task, SetsTask, PageTables, mappers}
+use Rattle.machine.specs.Tasks.{has_tasks, Tasks, task_at, is_live_life, is_live_task, lives, group_of, group_of_task, SetsTask, PageTables, mappers}
 use Rattle.machine.specs.State.{Opening, State, first_state}
 use Rattle.machine.specs.declared.refusal.Refusal.{Refusal}
 use Rattle.machine.specs.Refusals.{group_refusal, rmdir_refusal, refusal, first_cause}
-use Rattle.machine.specs.Step.{IsFreeBlock, still, EndsTasks, new_page, regrouped, Removes}
+use Rattle.machine.specs.Step.{IsFreeBlock, still, EndsTasks, new_page, heir, regrouped, Removes}
 use Rattle.machine.specs.Legal.{Legal}
 use Rattle.machine.proofs.Values.{some_inj, never_some, unlike}
 use Rattle.machine.proofs.TreeLemmas.{eq_cases, lt_cases, IsTree-push}
-use Rattle.machine.proofs.RemovedLemmas.{no_child, regrouped-test, regrouped-some, without-parent, without-dead, without-other, without-falls}
+use Rattle.machine.proofs.RemovedLemmas.{no_child, without-parent, without-dead, without-other, without-falls}
+use Rattle.page_lists.proofs.RegroupedLemmas.{elsewhere, heir-live, regrouped-test, regrouped-some}
 use Rattle.machine.proofs.TestLemmas.{count-less, count-two, none_has}
 use Rattle.machine.proofs.SlotLemmas.{one_if, count_there-none, count_there-changes}
 use Rattle.machine.proofs.FileLemmas.{holds_page, is_page_of-true, IsSingle, single_fewer, single_changes, home_above, home_below, homes_differ}
 use Rattle.legal.proofs.FileSteps.{AreFiled}
-use Rattle.legal.proofs.Did.{GoesTo, read_page, Moves, Rests, Comes, Goes, Lands, Lies, Did, Kept, Made, Moved, Cached, Dropped, Ended, Spawned, Forked, Freed, Attached, Removed, Grown, step_did}
+use Rattle.legal.proofs.Did.{GoesTo, ChargedTo, ItsOwn, ItsReaders, read_page, Moves, Rests, Comes, Goes, Lands, Lies, Did, Kept, Made, Moved, Cached, Dropped, Ended, Spawned, Forked, Freed, Attached, Removed, Grown, step_did}
 
 -- ---- what is sound
 
@@ -64,6 +65,7 @@ pub record IsSound (swap : ℕ) (files : List ℕ) (pages : Pages) (tasks : Task
   pub homes : (t : ℕ) → lives tasks t ≡ true → is_live tree (group_of_task tasks t) ≡ true
   pub above : (g p : ℕ) → is_live tree g ≡ true → (node_at tree g).parent ≡ Some p → is_live tree p ≡ true
   pub falls : IsTree tree
+  pub rooted : is_live tree 0 ≡ true
 
 -- a state of that opening
 abbrev pub sound_in : Opening → State → Type 0
@@ -161,6 +163,7 @@ module _ (swap : ℕ) (files : List ℕ) (pages pages' : Pages) (tasks : Tasks) 
         homes = sound.homes;
         above = sound.above;
         falls = sound.falls;
+        rooted = sound.rooted;
       }
 
   -- a page goes
@@ -187,15 +190,14 @@ module _ (swap : ℕ) (files : List ℕ) (pages pages' : Pages) (tasks : Tasks) 
   fit_there page there = subst (λ slot. IfSome slot (IsFit swap files tree)) there (sound.fits p)
 
   -- a page comes to stand elsewhere
-  sound-moved : (page : Page) (dirty : Bool) (r : Residence) → page_at pages p ≡ Some page
-      → Changes pages pages' p (Some (record { content = page.content; group = page.group; dirty = dirty; residence = r })) → IsFiledAs swap files (record { content = page.content; group = page.group; dirty = dirty; residence = r }) page.content
+  sound-moved : (page : Page) (g : ℕ) (dirty : Bool) (r : Residence) → page_at pages p ≡ Some page → is_live tree g ≡ true
+      → Changes pages pages' p (Some (record { content = page.content; group = g; dirty = dirty; residence = r })) → IsFiledAs swap files (record { content = page.content; group = g; dirty = dirty; residence = r }) page.content
       → ((b : ℕ) → is_anon page.content ≡ true → block_at r ≡ Some b → b < swap)
       → Renumbers (frame_at r) (frame_at page.residence) (is_frame_taken pages) → (is_anon page.content ≡ true → Renumbers (block_at r) (block_at page.residence) (is_swap_taken pages))
       → Renumbers (ticket_at r) (ticket_at page.residence) (is_ticket_taken pages) → IsSound swap files pages' tasks tree
-  sound-moved page dirty r there changes filed within frames blocks tickets =
-      let fit = fit_there page there in
-      let page' : Page = record { content = page.content; group = page.group; dirty = dirty; residence = r } in
-      sound-changed (Some page') changes (record { filed = filed; live = fit.live; within = within })
+  sound-moved page g dirty r there live changes filed within frames blocks tickets =
+      let page' : Page = record { content = page.content; group = g; dirty = dirty; residence = r } in
+      sound-changed (Some page') changes (record { filed = filed; live = live; within = within })
       (keeps-number has_this_frame pages p page' (frame_at r) (frame_at page.residence) (λ k is. is) (λ k e is. ap (there_and (has_this_frame k)) there ∙ (ap (λ o. is_number o k) (sym e) ∙ is)) frames)
       (λ k passes.
       keeps-number has_this_block pages p page' (block_at r) (block_at page.residence) (λ k is. (and_parts (is_anon page.content) (is_number (block_at r) k) is).1)
@@ -234,6 +236,7 @@ sound-stilled swap files tables before after tasks tree pages sound =
       homes = sound.homes;
       above = sound.above;
       falls = sound.falls;
+      rooted = sound.rooted;
     }
   where
     passed : (test : Page → Bool) (n : ℕ) → there_and test (at after n) ≡ true → there_and test (at before n) ≡ true
@@ -257,6 +260,7 @@ sound-tasks swap files pages tasks tasks' tree each sound =
           ];
       above = sound.above;
       falls = sound.falls;
+      rooted = sound.rooted;
     }
 
 -- the tasks of which a test holds end, and the pages that nothing maps any more go
@@ -317,6 +321,7 @@ sound-grown swap files pages tasks tree x below parent sound =
       homes = λ t alive. live_push tree x (group_of_task tasks t) (sound.homes t alive);
       above = λ g p live hangs. live_push tree x p (by_place g p live hangs (lt_cases g (length tree)));
       falls = IsTree-push tree x sound.falls below;
+      rooted = live_push tree x 0 sound.rooted;
     }
   where
     by_place : (g p : ℕ) → is_live (tree ++ x ∷ []) g ≡ true → (node_at (tree ++ x ∷ []) g).parent ≡ Some p → (g < length tree) ⊎ ((g ≡ length tree) ⊎ (length tree < g)) → is_live tree p ≡ true
@@ -341,34 +346,30 @@ sound-removed swap files old new g live childless taskless removes sound =
       blocks = once-fewer has_this_block old.pages new.pages sound.blocks (λ k n. passed (has_this_block k) (λ page. refl) n);
       tickets = once-fewer has_this_ticket old.pages new.pages sound.tickets (λ k n. passed (has_this_ticket k) (λ page. refl) n);
       single = single_fewer old.pages new.pages (λ f q n. passed (λ page. is_page_of f q page.content) (λ page. refl) n) sound.single;
-      fits = λ p. slot_is _ (page_at new.pages p) _ (removes.pages p) (regrouped-some (IsFit swap files old.tree) (IsFit swap files (without_group old.tree g)) g removes.parent fit (page_at old.pages p) (sound.fits p));
-      homes = λ t alive. stays (group_of_task old.tasks t) (elsewhere t alive) (sound.homes t alive);
+      fits = λ p. slot_is _ (page_at new.pages p) _ (removes.pages p) (regrouped-some (IsFit swap files old.tree) (IsFit swap files (without_group old.tree g)) old.opening.placement g removes.parent fit (page_at old.pages p) (sound.fits p));
+      homes = λ t alive. stays (group_of_task old.tasks t) (elsewhere old.tasks g t taskless alive) (sound.homes t alive);
       above = above;
       falls = without-falls old.tree g sound.falls;
+      rooted = root_stays;
     }
   where
-    passed : (test : Page → Bool) → ((page : Page) → test (regrouped g removes.parent page) ≡ test page) → (n : ℕ) → there_and test (at new.pages n) ≡ true → there_and test (at old.pages n) ≡ true
-    passed test same n e = sym (regrouped-test test g removes.parent same (page_at old.pages n)) ∙ sym (ap (there_and test) (removes.pages n)) ∙ e
+    passed : (test : Page → Bool) → ((page : Page) → test (regrouped old.opening.placement g removes.parent page) ≡ test page) → (n : ℕ) → there_and test (at new.pages n) ≡ true → there_and test (at old.pages n) ≡ true
+    passed test same n e = sym (regrouped-test test old.opening.placement g removes.parent same (page_at old.pages n)) ∙ sym (ap (there_and test) (removes.pages n)) ∙ e
 
     stays : (h : ℕ) → h ≢ g → is_live old.tree h ≡ true → is_live (without_group old.tree g) h ≡ true
     stays h other alive = ap (λ (n : Node). n.live) (without-other old.tree g h other) ∙ alive
 
-    -- no live task is of the group
-    elsewhere : (t : ℕ) → lives old.tasks t ≡ true → group_of_task old.tasks t ≢ g
-    elsewhere t alive same = by_task (task_at old.tasks t) alive same (none_has (is_live_in g) old.tasks taskless t)
-      where
-        by_task : (slot : Option Task) → there_and is_live_task slot ≡ true → group_of slot ≡ g → there_and (is_live_in g) slot ≡ false → ⊥
-        by_task None h e none = absurd (let wrong : false ≡ true = h in cc)
-        by_task (Some task) h e none = unlike (is_live_task task && (task.group.0 == g)) (ap (λ (b : Bool). b && (task.group.0 == g)) h ∙ eq-eqb task.group.0 g e) none
-
     parent_stays : is_live (without_group old.tree g) removes.parent ≡ true
     parent_stays = stays removes.parent (λ same. let less = sound.falls.falls g removes.parent removes.below in omega (arith, less, same)) (sound.above g removes.parent live removes.below)
 
-    fit : (page : Page) → IsFit swap files old.tree page → IsFit swap files (without_group old.tree g) (regrouped g removes.parent page)
+    root_stays : is_live (without_group old.tree g) 0 ≡ true
+    root_stays = stays 0 (λ same. let less = sound.falls.falls g removes.parent removes.below in omega (arith, less, same)) sound.rooted
+
+    fit : (page : Page) → IsFit swap files old.tree page → IsFit swap files (without_group old.tree g) (regrouped old.opening.placement g removes.parent page)
     fit page is = record { filed = is.filed; live = by_group (page.group == g) refl; within = is.within }
       where
-        by_group : (b : Bool) → (page.group == g) ≡ b → is_live (without_group old.tree g) (cond b removes.parent page.group) ≡ true
-        by_group true same = parent_stays
+        by_group : (b : Bool) → (page.group == g) ≡ b → is_live (without_group old.tree g) (cond b (heir old.opening.placement removes.parent page.residence) page.group) ≡ true
+        by_group true same = heir-live old.opening.placement (without_group old.tree g) removes.parent page.residence root_stays parent_stays
         by_group false other = stays page.group (λ e. unlike (page.group == g) (eq-eqb page.group g e) other) is.live
 
     above : (h p : ℕ) → is_live (without_group old.tree g) h ≡ true → (node_at (without_group old.tree g) h).parent ≡ Some p → is_live (without_group old.tree g) p ≡ true
@@ -405,16 +406,21 @@ module _ (opening : Opening) (old new : State) (sound : sound_in opening old) wh
   homes_are : (f q : ℕ) → home_block old.opening.swap old.opening.files f q ≡ home_block opening.swap opening.files f q
   homes_are f q = ap (λ (o : Opening). home_block o.swap o.files f q) sound.0
 
-  moved_sound : (what : Event) (answer : Reply) (p : ℕ) (page : Page) (dirty : Bool) (now : Residence) → page_at old.pages p ≡ Some page
-      → Changes old.pages new.pages p (Some (record { content = page.content; group = page.group; dirty = dirty; residence = now })) → Moves old what answer page dirty now
+  moved_sound : (what : Event) (answer : Reply) (p : ℕ) (page : Page) (g : ℕ) (dirty : Bool) (now : Residence) → page_at old.pages p ≡ Some page → ChargedTo old what page g
+      → Changes old.pages new.pages p (Some (record { content = page.content; group = g; dirty = dirty; residence = now })) → Moves old what answer page dirty now
       → IsSound opening.swap opening.files new.pages old.tasks old.tree
-  moved_sound what answer p page dirty now there placed moves = by_move moves
+  moved_sound what answer p page g dirty now there whose placed moves = by_move moves
     where
       fit : IsFit opening.swap opening.files old.tree page
       fit = fit_at p page there
 
       now_page : Page
-      now_page = record { content = page.content; group = page.group; dirty = dirty; residence = now }
+      now_page = record { content = page.content; group = g; dirty = dirty; residence = now }
+
+      -- whoever is charged is there
+      live : ChargedTo old what page g → is_live old.tree g ≡ true
+      live (ItsOwn same) = ap (is_live old.tree) same ∙ fit.live
+      live (ItsReaders t block access alive away reads) = ap (is_live old.tree) reads ∙ sound.1.homes t alive
 
       -- memory is clean, and a page of a file at home
       filed : (page.content ≡ Memory → dirty ≡ page.dirty ⊎ dirty ≡ false)
@@ -430,7 +436,7 @@ module _ (opening : Opening) (old new : State) (sound : sound_in opening old) wh
           → Renumbers (frame_at now) (frame_at page.residence) (is_frame_taken old.pages)
           → (is_anon page.content ≡ true → Renumbers (block_at now) (block_at page.residence) (is_swap_taken old.pages)) → Renumbers (ticket_at now) (ticket_at page.residence) (is_ticket_taken old.pages)
           → IsSound opening.swap opening.files new.pages old.tasks old.tree
-      stands = sound-moved opening.swap opening.files old.pages new.pages old.tasks old.tree p sound.1 page dirty now there placed
+      stands = sound-moved opening.swap opening.files old.pages new.pages old.tasks old.tree p sound.1 page g dirty now there (live whose) placed
 
       -- on the block that it had
       on_its_block : block_at now ≡ block_at page.residence → (b : ℕ) → is_anon page.content ≡ true → block_at now ≡ Some b → b < opening.swap
@@ -492,7 +498,7 @@ module _ (opening : Opening) (old new : State) (sound : sound_in opening old) wh
   did_sound what answer none (Kept limits flags counted e) = subst (sound_in opening) (sym e) (sound.0, sound.1)
   did_sound what answer none (Made t v p frame access out alive shared within free unused placed shown e) =
       pages_sound e (sound-placed opening.swap opening.files old.pages new.pages old.tasks old.tree p sound.1 (group_of_task old.tasks t) frame (sound.1.homes t alive) unused placed)
-  did_sound what answer none (Moved p page dirty now counted there placed moves mapped e) = pages_sound e (moved_sound what answer p page dirty now there placed moves)
+  did_sound what answer none (Moved p page to dirty now counted there whose placed moves mapped e) = pages_sound e (moved_sound what answer p page to dirty now there whose placed moves)
   did_sound what answer none (Cached t f q p frame ticket access out alive unread within free unused fresh filed placed e) =
       pages_sound e
       (sound-read opening.swap opening.files old.pages new.pages old.tasks old.tree p sound.1 (group_of_task old.tasks t) f q frame ticket (sound.1.homes t alive)
@@ -527,7 +533,7 @@ root_hangs (suc g) p e = absurd (let none : None ≡ Some p = e in never_some {P
 first_sound : (opening : Opening) → sound_in opening (first_state opening)
 first_sound opening = (
   refl,
-  record { frames = λ f. omega arith; blocks = λ b. omega arith; tickets = λ n. omega arith; single = record { single = λ f q p p' page page' there there' holds holds'. cc }; fits = λ p. tt; homes = λ t alive. cc; above = λ g p live hangs. absurd (root_hangs g p hangs); falls = record { falls = root_falls } },
+  record { frames = λ f. omega arith; blocks = λ b. omega arith; tickets = λ n. omega arith; single = record { single = λ f q p p' page page' there there' holds holds'. cc }; fits = λ p. tt; homes = λ t alive. cc; above = λ g p live hangs. absurd (root_hangs g p hangs); falls = record { falls = root_falls }; rooted = refl },
 )
 
 pub legal-sound : (opening : Opening) (history : List Entry) (s : State) → Legal opening history s → sound_in opening s

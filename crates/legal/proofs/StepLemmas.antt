@@ -20,7 +20,7 @@ use Rattle.machine.specs.declared.reply.Reply.{Reply}
 use Rattle.machine.specs.declared.reply.Reply.TheVariants as reply
 use Rattle.machine.specs.Slots.{Changes, there_and}
 use Rattle.machine.specs.Tree.{Node, no_node, is_live}
-use Rattle.machine.specs.Pages.{Held, Residence, Coming, home_block, Page, Pages, page_at, is_held, is_held_at, is_held_in, is_anon, in_transfer_at}
+use Rattle.machine.specs.Pages.{Held, Residence, Coming, frame_at, is_some_number, home_block, Page, Pages, page_at, is_held, is_held_at, is_held_in, is_anon, in_transfer_at}
 use Rattle.machine.specs.Tasks.{PageTables, mappers, task_at, group_of_task}
 use Rattle.machine.specs.State.{Opening, State, page_numbers, over_in, is_frame_free}
 use Rattle.machine.specs.Access.{Meeting, Unmapped, Hits, Transferring, NeedsPage, NeedsCopy, NeedsSwapIn, NeedsRead, Dangling, meets}
@@ -31,8 +31,8 @@ use Rattle.machine.specs.Lists.{HeldLists, is_held_of, shown_at}
 use Rattle.machine.proofs.Values.{some_inj, unlike}
 use Rattle.machine.proofs.TreeLemmas.{eq_cases}
 use Rattle.legal.proofs.MoveLemmas.{Met, met, MetFile, met_file}
-use Rattle.legal.proofs.Did.{is_rmdir, read_page, Did, Kept, Made, Moved, Cached, Dropped, Ended, Spawned, Forked, Freed, Attached, Removed, Grown, step_did}
-use Rattle.machine.proofs.RemovedLemmas.{regrouped-some}
+use Rattle.legal.proofs.Did.{is_rmdir, same_group, read_page, Did, Kept, Made, Moved, Cached, Dropped, Ended, Spawned, Forked, Freed, Attached, Removed, Grown, step_did}
+use Rattle.page_lists.proofs.RegroupedLemmas.{held-framed, regrouped-some}
 use Rattle.legal.proofs.SoundLemmas.{IsFit, legal-sound}
 use Rattle.page_lists.proofs.HeldLemmas.{SamePlaces, HasLists}
 
@@ -46,8 +46,11 @@ alike-same : (before after : Option Page) → after ≡ before → AreAlike befo
 alike-same before after e was is g kind = ap (there_and (is_held_of g kind)) e
 
 -- one page stands elsewhere
-alike-moved : (page : Page) (dirty : Bool) (now : Residence) → AreAlike (Some page) (Some (record { content = page.content; group = page.group; dirty = dirty; residence = now }))
-alike-moved page dirty now was is g kind = ap (λ (b : Bool). b && ((page.group == g) && of_kind kind (is_anon page.content) (not (is_anon page.content)))) (is ∙ sym was)
+alike-moved : (page : Page) (to : ℕ) (dirty : Bool) (now : Residence) → (is_some_number (frame_at page.residence) ≡ true → to ≡ page.group)
+    → AreAlike (Some page) (Some (record { content = page.content; group = to; dirty = dirty; residence = now }))
+alike-moved page to dirty now stays was is g kind =
+    ap (λ (n : ℕ). is_held_at now && ((n == g) && of_kind kind (is_anon page.content) (not (is_anon page.content)))) (stays (held-framed page.residence was))
+    ∙ ap (λ (b : Bool). b && ((page.group == g) && of_kind kind (is_anon page.content) (not (is_anon page.content)))) (is ∙ sym was)
 
 -- a page that goes is not held then
 alike-gone : (before : Option Page) → AreAlike before None
@@ -87,7 +90,7 @@ module _ (old new : State) where
   did-places : (what : Event) (answer : Reply) → is_rmdir what ≡ false → Did old what answer new → SamePlaces old.pages new.pages
   did-places what answer stays (Kept limits flags counted e) = places-same (ap (λ (s : State). s.pages) e)
   did-places what answer stays (Made t v p frame access out alive shared within free unused placed shown e) = let made : Option Page = Some (new_page (group_of_task old.tasks t) frame) in places-one p None made free placed (alike-new made)
-  did-places what answer stays (Moved p page dirty now counted there placed moves mapped e) = let moved : Option Page = Some (record { content = page.content; group = page.group; dirty = dirty; residence = now }) in places-one p (Some page) moved there placed (alike-moved page dirty now)
+  did-places what answer stays (Moved p page to dirty now counted there whose placed moves mapped e) = let moved : Option Page = Some (record { content = page.content; group = to; dirty = dirty; residence = now }) in places-one p (Some page) moved there placed (alike-moved page to dirty now (λ framed. same_group old what page to framed whose))
   did-places what answer stays (Cached t f q p frame ticket access out alive unread within free unused fresh filed placed e) = let read : Option Page = Some (read_page (group_of_task old.tasks t) f q (Coming frame (home_block old.opening.swap old.opening.files f q) ticket)) in places-one p None read free placed (alike-new read)
   did-places what answer stays (Dropped p page counted out there may_go went gone e) = places-one p (Some page) None there gone (alike-gone (Some page))
   did-places what answer stays (Ended is_gone ending counted out dead ends) =
@@ -156,7 +159,7 @@ module _ (old new : State) (many : ℕ) (numbers : page_numbers old.opening ≡ 
   did-numbered : (what : Event) (answer : Reply) → Did old what answer new → IsNumbered many new.pages
   did-numbered what answer (Kept limits flags counted e) = numbered-same (ap (λ (s : State). s.pages) e)
   did-numbered what answer (Made t v p frame access out alive shared within free unused placed shown e) = numbered-one p _ placed (subst (λ (n : ℕ). p < n) numbers within)
-  did-numbered what answer (Moved p page dirty now counted there placed moves mapped e) = numbered-one p _ placed (subst (λ (o : Option Page). IfSome o (λ x. p < many)) there (was.below p))
+  did-numbered what answer (Moved p page to dirty now counted there whose placed moves mapped e) = numbered-one p _ placed (subst (λ (o : Option Page). IfSome o (λ x. p < many)) there (was.below p))
   did-numbered what answer (Cached t f q p frame ticket access out alive unread within free unused fresh filed placed e) = numbered-one p _ placed (subst (λ (n : ℕ). p < n) numbers within)
   did-numbered what answer (Dropped p page counted out there may_go went gone e) = numbered-one p None gone tt
   did-numbered what answer (Ended is_gone ending counted out dead ends) =
@@ -170,7 +173,7 @@ module _ (old new : State) (many : ℕ) (numbers : page_numbers old.opening ≡ 
       record {
         below = λ p.
             subst (λ (o : Option Page). IfSome o (λ page. p < many)) (sym (removes.pages p))
-            (regrouped-some (λ page. p < many) (λ page. p < many) g.0 removes.parent (λ page lt. lt) (page_at old.pages p) (was.below p));
+            (regrouped-some (λ page. p < many) (λ page. p < many) old.opening.placement g.0 removes.parent (λ page lt. lt) (page_at old.pages p) (was.below p));
       }
   did-numbered what answer (Grown path is out e) = numbered-same (ap (λ (s : State). s.pages) e)
 
@@ -248,7 +251,7 @@ module _ (old new : State) (t : TaskId) (place : Place) (op : Op) (frame : Frame
   meeting g Transferring is h = other_answer _ refl h.0
   meeting g (NeedsPage w) is h = charged (over_in old g) (is_frame_free old) _ (λ made. other_answer _ refl made.answers) h
   meeting g (NeedsCopy w) is h = charged (over_in old g) (is_frame_free old) _ (λ made. other_answer _ refl made.answers) h
-  meeting g (NeedsSwapIn p page block) is h = charged (over_in old page.group) (is_frame_free old) _ (λ begun. other_answer _ refl begun.answers) h
+  meeting g (NeedsSwapIn p page block) is h = charged (over_in old _) (is_frame_free old) _ (λ begun. other_answer _ refl begun.answers) h
   meeting g (NeedsRead f q) is h = charged (over_in old g) (is_frame_free old) _ (λ begun. other_answer _ refl begun.fetch.answers) h
   meeting g Dangling is h = absurd h
 

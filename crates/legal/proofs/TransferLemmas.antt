@@ -142,9 +142,9 @@ module _ (old new : State) where
     makes w g answer h = let one = one_changes h.page None _ h.slot_free h.placed in quiet _ answer refl (ap begins_transfer h.answers) (omega (arith, one))
 
     -- a page begins to be read in: that is what was needed for
-    swaps_in : (p block : ℕ) (page : Page) (answer : Reply) → page_at old.pages p ≡ Some page → page.residence ≡ Away block → fetches old t.0 place op ≡ true
-        → StartsFetch old p page.group page.content block answer new → Flies old (event.Access t place op) answer new
-    swaps_in p block page answer there away fetch h =
+    swaps_in : (p g block : ℕ) (page : Page) (answer : Reply) → page_at old.pages p ≡ Some page → page.residence ≡ Away block → fetches old t.0 place op ≡ true
+        → StartsFetch old p g page.content block answer new → Flies old (event.Access t place op) answer new
+    swaps_in p g block page answer there away fetch h =
         let one = one_changes p (Some page) _ there h.placed in
         let none : flying (Some page) ≡ 0 = ap (λ r. one_if (in_transfer_at r)) away in
         let begins : one_if (begins_transfer answer) ≡ 1 = ap (λ a. one_if (begins_transfer a)) h.answers in
@@ -159,12 +159,12 @@ module _ (old new : State) where
 
     -- it is known before that a page will be read in
     fetches-known : (task : Task) (met : Meeting) (g : ℕ) → task_at old.tasks t.0 ≡ Some task → task.life ≡ Live → meets old t.0 place op ≡ met → is_fetch met ≡ true
-        → charges met task.group.0 ≡ Some g → over_in old g ≡ None → is_frame_free old ≡ true → fetches old t.0 place op ≡ true
+        → charges old.opening.placement met task.group.0 ≡ Some g → over_in old g ≡ None → is_frame_free old ≡ true → fetches old t.0 place op ≡ true
     fetches-known task met g known live is fetch charge within free =
         ap (task_fetches old t.0 place op) known
         ∙ ap (life_fetches old t.0 place op task) live
         ∙ ap (meeting_fetches old task.group.0) is
-        ∙ ap (λ (b : Bool). b && is_granted old (charges met task.group.0)) fetch
+        ∙ ap (λ (b : Bool). b && is_granted old (charges old.opening.placement met task.group.0)) fetch
         ∙ ap (is_granted old) charge
         ∙ ap (λ (low : Option ℕ). is_none low && is_frame_free old) within
         ∙ free
@@ -186,8 +186,8 @@ module _ (old new : State) where
     meeting task answer (NeedsCopy w) known live is h = charged task.group.0 _ answer (λ within free made. makes w task.group.0 answer made) h
     meeting task answer (NeedsSwapIn p page block) known live is h =
         let found = away_at p page block is in
-        charged page.group _ answer
-        (λ within free begun. swaps_in p block page answer found.0 found.1 (fetches-known task (NeedsSwapIn p page block) page.group known live is refl refl within free) begun) h
+        charged _ _ answer
+        (λ within free begun. swaps_in p _ block page answer found.0 found.1 (fetches-known task (NeedsSwapIn p page block) _ known live is refl refl within free) begun) h
     meeting task answer (NeedsRead file q) known live is h =
         charged task.group.0 _ answer (λ within free begun. reads_in file q task.group.0 answer (fetches-known task (NeedsRead file q) task.group.0 known live is refl refl within free) begun) h
     meeting task answer Dangling known live is h = absurd h

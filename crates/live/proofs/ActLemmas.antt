@@ -19,6 +19,7 @@ use Rattle.machine.specs.State.{Opening}
 use Rattle.machine.specs.History.{is_by, entries_by}
 use Rattle.machine.specs.Call.{Past, Caller, knows_pass, is_trace_full, leaves_entry, entry_of, entries_of, Refuses, Answers, Answered, JudgedBy, Called}
 use Rattle.machine.proofs.EntryLemmas.{entries-one}
+use Rattle.legal.proofs.OpeningLemmas.{called_opening}
 use Rattle.book.specs.declared.kept.Kept.{Kept}
 use Rattle.book.specs.Passes.{PassOf, is_entry, count_of, is_current}
 use Rattle.live.specs.declared.history.Exchange.{Exchange}
@@ -72,6 +73,18 @@ module _ (old : Past) (caller : Caller) (what : Event) (new : Past) where
 -- a merge of marks leaves none
 pub merged-history : (old : Past) (word bits : ℕ) (new : Past) → Merged old word bits new → new.history ≡ old.history
 merged-history old word bits new h = called-goes old h.0 (event.MergeMarks word bits) new reply.Ok h.1
+
+-- ---- the opening
+
+-- what the opening fixes stays
+pub leads-opening : (opening : Opening) (acts : List Act) (past : Past) → Leads opening acts past → past.state.opening ≡ opening
+leads-opening opening [] past h = ap (λ (p : Past). p.state.opening) h
+leads-opening opening (Tells by (Call what said) ∷ acts) past h =
+    called_opening h.0 past (record { worker = by }) what said h.2.1 ∙ leads-opening opening acts h.0 h.1
+leads-opening opening (Tells by (Find path found) ∷ acts) past h = ap (λ (p : Past). p.state.opening) h.2.1 ∙ leads-opening opening acts h.0 h.1
+leads-opening opening (Merges word bits ∷ acts) past h =
+    called_opening h.0 past h.2.0 (event.MergeMarks word bits) reply.Ok h.2.1 ∙ leads-opening opening acts h.0 h.1
+leads-opening opening (GivesOut ∷ acts) past h = ap (λ (p : Past). p.state.opening) h.2 ∙ leads-opening opening acts h.0 h.1
 
 -- ---- what a worker was told
 

@@ -5,7 +5,7 @@ pub mod RestLemmas
 mod ViewLemmas
 mod ToldLemmas
 mod RuleLemmas
-mod ActLemmas
+pub mod ActLemmas
 mod SharedLemmas
 mod EndLemmas
 mod GivenLemmas

@@ -1,7 +1,6 @@
 -- Rows of turns grow by a turn.
 use Rattle.std.proofs.Common.{◌≡◌, ℕ, suc, List, [], ◌∷◌, ◌++◌, refl, sym, ap, ◌∙◌, append_assoc, append-nil, subst, inl, inr, false, ◌+◌, ◌<◌, length, take, get_or, map}
 use Rattle.std.proofs.lemmas.List.{take_more}
-use Rattle.machine.specs.declared.config.Watermarks.{Watermarks}
 use Rattle.machine.specs.declared.command.Actor.{Actor}
 use Rattle.machine.specs.declared.command.Command.{Command}
 use Rattle.machine.specs.declared.command.Reply.{Reply as Told_by}
@@ -22,12 +21,12 @@ use Rattle.live.specs.Runs.{Made, Linked, Closed, Under, Ran, Looked, Judging, D
 joins : {A : Type 0} (a b c x y : List A) → b ≡ a ++ x → c ≡ b ++ y → c ≡ a ++ (x ++ y)
 joins a b c x y one two = two ∙ (ap (λ l. l ++ y) one ∙ append_assoc a x y)
 
-pub under_none : (marks : Watermarks) (who : Actor) (start : Stage) (kept : List Exchange) (told : List Told_by) → Under marks who start kept kept told told start
-under_none marks who start kept told = record { row = []; added = []; said = []; keeps = sym (append-nil kept); tells = sym (append-nil told); leads = (refl, refl, refl) }
+pub under_none : (opening : Opening) (who : Actor) (start : Stage) (kept : List Exchange) (told : List Told_by) → Under opening who start kept kept told told start
+under_none opening who start kept told = record { row = []; added = []; said = []; keeps = sym (append-nil kept); tells = sym (append-nil told); leads = (refl, refl, refl) }
 
-pub under_more : (marks : Watermarks) (who : Actor) (start : Stage) (k0 k1 k2 : List Exchange) (t0 t1 t2 : List Told_by) (mid next : Stage)
-    → Under marks who start k0 k1 t0 t1 mid → Linked marks who mid k1 k2 t1 t2 next → Under marks who start k0 k2 t0 t2 next
-under_more marks who start k0 k1 k2 t0 t1 t2 mid next u l = record {
+pub under_more : (opening : Opening) (who : Actor) (start : Stage) (k0 k1 k2 : List Exchange) (t0 t1 t2 : List Told_by) (mid next : Stage)
+    → Under opening who start k0 k1 t0 t1 mid → Linked opening who mid k1 k2 t1 t2 next → Under opening who start k0 k2 t0 t2 next
+under_more opening who start k0 k1 k2 t0 t1 t2 mid next u l = record {
   row = mid ∷ u.row;
   added = u.added ++ l.added;
   said = u.said ++ l.said;
@@ -36,9 +35,9 @@ under_more marks who start k0 k1 k2 t0 t1 t2 mid next u l = record {
   leads = (u.added, l.added, u.said, l.said, u.leads, l.link, refl, refl);
 }
 
-pub under_closed : (marks : Watermarks) (who : Actor) (start : Stage) (k0 k1 k2 : List Exchange) (t0 t1 t2 : List Told_by) (mid : Stage)
-    → Under marks who start k0 k1 t0 t1 mid → Closed marks who mid k1 k2 t1 t2 → Ran marks who start k0 k2 t0 t2
-under_closed marks who start k0 k1 k2 t0 t1 t2 mid u l = record {
+pub under_closed : (opening : Opening) (who : Actor) (start : Stage) (k0 k1 k2 : List Exchange) (t0 t1 t2 : List Told_by) (mid : Stage)
+    → Under opening who start k0 k1 t0 t1 mid → Closed opening who mid k1 k2 t1 t2 → Ran opening who start k0 k2 t0 t2
+under_closed opening who start k0 k1 k2 t0 t1 t2 mid u l = record {
   added = u.added ++ l.added;
   said = u.said ++ answer_by who l.what;
   keeps = joins k0 k1 k2 u.added l.added u.keeps l.keeps;
@@ -83,13 +82,13 @@ did_none opening who what k k' t t' keeps tells = record {
 }
 
 pub did_judged : (opening : Opening) (who : Actor) (what : Command) (k0 k1 k2 : List Exchange) (t t' : List Told_by) (result : Judged)
-    → Looked opening who what k0 k1 result → Judging opening.watermarks who result k1 k2 t t' → Did opening who what k0 k2 t t'
+    → Looked opening who what k0 k1 result → Judging opening who result k1 k2 t t' → Did opening who what k0 k2 t t'
 did_judged opening who what k0 k1 k2 t t' result j r = record {
   added = finds_of (paths_of who what) j.found ++ r.added;
   said = r.said;
   keeps = joins k0 k1 k2 (finds_of (paths_of who what) j.found) r.added j.keeps r.keeps;
   tells = r.tells;
-  does = inl (record { found = j.found; later = r.added; each = j.each; runs = subst (λ (x : Judged). JudgedRuns opening.watermarks who x r.added r.said) j.is r.runs; keeps = refl });
+  does = inl (record { found = j.found; later = r.added; each = j.each; runs = subst (λ (x : Judged). JudgedRuns opening who x r.added r.said) j.is r.runs; keeps = refl });
 }
 
 -- one command more
@@ -120,9 +119,9 @@ worked_more opening who cs what k0 k1 k2 t1 t2 w d = record {
 }
 
 -- a turn after which the command goes on
-pub linked : (marks : Watermarks) (who : Actor) (stage next : Stage) (transition : Transition) (k0 k1 k2 : List Exchange) (t0 t1 said : List Told_by)
-    → k1 ≡ k0 → Made marks stage k1 k2 transition → GoesOn who transition said next → t1 ≡ t0 ++ said → Linked marks who stage k0 k2 t0 t1 next
-linked marks who stage next transition k0 k1 k2 t0 t1 said same m goes tells = record {
+pub linked : (opening : Opening) (who : Actor) (stage next : Stage) (transition : Transition) (k0 k1 k2 : List Exchange) (t0 t1 said : List Told_by)
+    → k1 ≡ k0 → Made opening stage k1 k2 transition → GoesOn who transition said next → t1 ≡ t0 ++ said → Linked opening who stage k0 k2 t0 t1 next
+linked opening who stage next transition k0 k1 k2 t0 t1 said same m goes tells = record {
   added = m.added;
   said = said;
   keeps = m.keeps ∙ ap (λ l. l ++ m.added) same;
@@ -131,8 +130,8 @@ linked marks who stage next transition k0 k1 k2 t0 t1 said same m goes tells = r
 }
 
 -- memory is refused where no ticket is in hand
-pub closed_none : (marks : Watermarks) (who : Actor) (stage : Stage) (k0 k1 : List Exchange) (t0 t1 t2 : List Told_by) → k1 ≡ k0 → t1 ≡ t0 → t2 ≡ t1 ++ answer_by who no_memory → holds stage ≡ false → Closed marks who stage k0 k1 t0 t2
-closed_none marks who stage k0 k1 t0 t1 t2 same told tells none = record {
+pub closed_none : (opening : Opening) (who : Actor) (stage : Stage) (k0 k1 : List Exchange) (t0 t1 t2 : List Told_by) → k1 ≡ k0 → t1 ≡ t0 → t2 ≡ t1 ++ answer_by who no_memory → holds stage ≡ false → Closed opening who stage k0 k1 t0 t2
+closed_none opening who stage k0 k1 t0 t1 t2 same told tells none = record {
   added = [];
   what = no_memory;
   keeps = same ∙ sym (append-nil k0);

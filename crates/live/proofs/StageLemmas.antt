@@ -3,6 +3,7 @@ use Rattle.std.proofs.Common.{◌≡◌, ℕ, zero, suc, Bool, true, false, List
 use Rattle.std.specs.Prelude.{Result, nat_le, if◌then◌else◌}
 use Rattle.machine.specs.declared.record.Direction.TheVariants.{In, Out}
 use Rattle.machine.specs.declared.config.Watermarks.{Watermarks}
+use Rattle.machine.specs.State.{Opening}
 use Rattle.machine.specs.declared.command.Actor.{Actor}
 use Rattle.machine.specs.declared.command.Reply.{Reply as Told_by}
 use Rattle.machine.specs.declared.command.Word.TheVariants as word
@@ -161,10 +162,10 @@ module _ (new earlier : List Exchange) (asked : Event) (transition : Transition)
   did-has (said.Refused why) h = stands-so _ h tt
   did-has answered h = absurd h
 
-  shown-has : (answered : Reply) → WasShown answered transition → HasTransition new transition
-  shown-has (said.Shown numbers) h = stands-so _ h tt
-  shown-has (said.Refused why) h = stands-so _ h tt
-  shown-has answered h = absurd h
+  shown-has : (page_size : ℕ) (answered : Reply) → WasShown page_size answered transition → HasTransition new transition
+  shown-has page_size (said.Shown numbers) h = stands-so _ h tt
+  shown-has page_size (said.Refused why) h = stands-so _ h tt
+  shown-has page_size answered h = absurd h
 
   closed-has : (resumed : Transition) (answered : Reply) → HasTransition new resumed → Was_closed resumed answered transition → HasTransition new transition
   closed-has resumed said.Ok has h = stands-so _ h has
@@ -172,20 +173,20 @@ module _ (new earlier : List Exchange) (asked : Event) (transition : Transition)
   closed-has resumed (said.StrangeOut ticket) has h = stands-so _ h tt
   closed-has resumed answered has h = absurd h
 
-  told-has : (remembers : Pending) (answered : Reply) → Last answered → Told remembers answered transition → HasTransition new transition
-  told-has (pending.Try access) answered is h = tried-has access answered is h
-  told-has (pending.MakeRoom access why) answered is h = room-has access why answered is h
-  told-has (pending.SetMax g) answered is h = max-has g.0 answered is h
-  told-has (pending.Lower g) answered is h = lowered-has g.0 answered is h
-  told-has (pending.Reclaim g left) answered is h = reclaimed-has g.0 left answered is h
-  told-has pending.Balance answered is h = balanced-has answered is h
-  told-has pending.Make answered is h = was_made-has answered h
-  told-has pending.OfTask answered is h = did-has answered h
-  told-has pending.Show answered is h = shown-has answered h
-  told-has (pending.Arrive access) answered is h = closed-has (Goes (stage.Try (arrived access))) answered tt h
-  told-has pending.FetchFail answered is h = closed-has (ends_with word.Io) answered tt h
-  told-has (pending.Leave on) answered is h = closed-has (Goes (resumes_at on)) answered (has-resumed new on) h
-  told-has pending.LeaveFail answered is h = closed-has (ends_with word.Io) answered tt h
+  told-has : (page_size : ℕ) (remembers : Pending) (answered : Reply) → Last answered → Told page_size remembers answered transition → HasTransition new transition
+  told-has page_size (pending.Try access) answered is h = tried-has access answered is h
+  told-has page_size (pending.MakeRoom access why) answered is h = room-has access why answered is h
+  told-has page_size (pending.SetMax g) answered is h = max-has g.0 answered is h
+  told-has page_size (pending.Lower g) answered is h = lowered-has g.0 answered is h
+  told-has page_size (pending.Reclaim g left) answered is h = reclaimed-has g.0 left answered is h
+  told-has page_size pending.Balance answered is h = balanced-has answered is h
+  told-has page_size pending.Make answered is h = was_made-has answered h
+  told-has page_size pending.OfTask answered is h = did-has answered h
+  told-has page_size pending.Show answered is h = shown-has page_size answered h
+  told-has page_size (pending.Arrive access) answered is h = closed-has (Goes (stage.Try (arrived access))) answered tt h
+  told-has page_size pending.FetchFail answered is h = closed-has (ends_with word.Io) answered tt h
+  told-has page_size (pending.Leave on) answered is h = closed-has (Goes (resumes_at on)) answered (has-resumed new on) h
+  told-has page_size pending.LeaveFail answered is h = closed-has (ends_with word.Io) answered tt h
 
 -- ---- turns
 
@@ -201,14 +202,14 @@ module _ (old new added : List Exchange) (transition : Transition) (keeps : new 
   write-has on ticket (Ok _) h = h
   write-has on ticket (Err fault) h = h
 
-  want-has : (w : Want) → HasWant old w → WantMade w added transition → HasTransition new transition
-  want-has (want.Call remembers what) has h = told-has new old (event_of what) transition remembers h.said (keeps ∙ ap (λ (l : List Exchange). old ++ l) h.kept) h.told
-  want-has (want.Read access ticket) has h =
+  want-has : (opening : Opening) (w : Want) → HasWant old w → WantMade opening w added transition → HasTransition new transition
+  want-has opening (want.Call remembers what) has h = told-has new old (event_of what) transition opening.page_size remembers h.said (keeps ∙ ap (λ (l : List Exchange). old ++ l) h.kept) h.told
+  want-has opening (want.Read access ticket) has h =
       let filled : TicketOf = record ticket { bytes = h.filled } in
       subst (HasTransition new) (sym h.goes) (read-has access filled h.answered (subst (IsInHand In ticket.number) (sym (same-kept h.kept)) has))
-  want-has (want.Write on ticket) has h =
+  want-has opening (want.Write on ticket) has h =
       subst (HasTransition new) (sym h.goes) (write-has on ticket h.answered (subst (IsInHand Out ticket.number) (sym (same-kept h.kept)) has))
-  want-has (want.End said) has h = subst (HasTransition new) (sym h.1) tt
+  want-has opening (want.End said) has h = subst (HasTransition new) (sym h.1) tt
 
   goes-has : (who : Actor) (told : List Told_by) (next : Stage) → HasTransition new transition → GoesOn who transition told next → HasStage new next
   goes-has who told next has goes = by transition has goes
@@ -220,7 +221,7 @@ module _ (old new added : List Exchange) (transition : Transition) (keeps : new 
       by (Ends said) h g = absurd g
 
 -- behind a turn after which the command goes on
-pub linked-has : (marks : Watermarks) (who : Actor) (old new : List Exchange) (told telling : List Told_by) (at next : Stage) → Linked marks who at old new told telling next → HasStage old at → HasStage new next
-linked-has marks who old new told telling at next l h =
+pub linked-has : (opening : Opening) (who : Actor) (old new : List Exchange) (told telling : List Told_by) (at next : Stage) → Linked opening who at old new told telling next → HasStage old at → HasStage new next
+linked-has opening who old new told telling at next l h =
     goes-has old new l.added l.link.transition l.keeps who l.said next
-    (want-has old new l.added l.link.transition l.keeps (wants marks l.link.made.free at) (has-want marks l.link.made.free old at h) l.link.made.made) l.link.goes
+    (want-has old new l.added l.link.transition l.keeps opening (wants opening.watermarks l.link.made.free at) (has-want opening.watermarks l.link.made.free old at h) l.link.made.made) l.link.goes

@@ -1,6 +1,5 @@
 -- What a worker's steps add to its pass and to its answers, from before to after: words for the worker's own functions. No public clause cites these.
 use Rattle.std.specs.Prelude.{◌≡◌, ℕ, List, ◌++◌, length, Option}
-use Rattle.machine.specs.declared.config.Watermarks.{Watermarks}
 use Rattle.machine.specs.declared.command.Actor.{Actor}
 use Rattle.machine.specs.declared.command.Command.{Command}
 use Rattle.machine.specs.declared.command.Answer.{Answer}
@@ -16,53 +15,53 @@ use Rattle.turns.specs.Turns.{Judged, paths_of, judged_with, answer_by}
 use Rattle.live.specs.declared.history.Exchange.{Exchange}
 use Rattle.live.specs.Works.{Calls, TurnMade, Link, Leads, Closes, Answered, JudgedRuns, Does, finds_of}
 
-pub record CallMade (remembers : Pending) (what : Event) (old new : List Exchange) (transition : Transition) : Type 0 where
+pub record CallMade (opening : Opening) (remembers : Pending) (what : Event) (old new : List Exchange) (transition : Transition) : Type 0 where
   pub added : List Exchange
   pub keeps : new ≡ old ++ added
-  pub made : Calls remembers what added transition
+  pub made : Calls opening remembers what added transition
 
 -- all but the memory for the text
-pub record CallWants (remembers : Pending) (what : Event) (old new : List Exchange) : Type 0 where
+pub record CallWants (opening : Opening) (remembers : Pending) (what : Event) (old new : List Exchange) : Type 0 where
   pub text : List ℕ
-  pub made : CallMade remembers what old new (Ends (answer.Text text))
+  pub made : CallMade opening remembers what old new (Ends (answer.Text text))
 
-pub record Made (marks : Watermarks) (stage : Stage) (old new : List Exchange) (transition : Transition) : Type 0 where
+pub record Made (opening : Opening) (stage : Stage) (old new : List Exchange) (transition : Transition) : Type 0 where
   pub added : List Exchange
   pub keeps : new ≡ old ++ added
-  pub made : TurnMade marks stage added transition
+  pub made : TurnMade opening stage added transition
 
-pub record Wants (marks : Watermarks) (stage : Stage) (old new : List Exchange) : Type 0 where
+pub record Wants (opening : Opening) (stage : Stage) (old new : List Exchange) : Type 0 where
   pub text : List ℕ
-  pub made : Made marks stage old new (Ends (answer.Text text))
+  pub made : Made opening stage old new (Ends (answer.Text text))
 
-pub record Linked (marks : Watermarks) (who : Actor) (stage : Stage) (old new : List Exchange) (told telling : List Told_by) (next : Stage) : Type 0 where
+pub record Linked (opening : Opening) (who : Actor) (stage : Stage) (old new : List Exchange) (told telling : List Told_by) (next : Stage) : Type 0 where
   pub added : List Exchange
   pub said : List Told_by
   pub keeps : new ≡ old ++ added
   pub tells : telling ≡ told ++ said
-  pub link : Link marks who stage added said next
+  pub link : Link opening who stage added said next
 
-pub record Closed (marks : Watermarks) (who : Actor) (stage : Stage) (old new : List Exchange) (told telling : List Told_by) : Type 0 where
+pub record Closed (opening : Opening) (who : Actor) (stage : Stage) (old new : List Exchange) (told telling : List Told_by) : Type 0 where
   pub added : List Exchange
   pub what : Answer
   pub keeps : new ≡ old ++ added
   pub tells : telling ≡ told ++ answer_by who what
-  pub closes : Closes marks stage added what
+  pub closes : Closes opening stage added what
 
-pub record Under (marks : Watermarks) (who : Actor) (start : Stage) (old new : List Exchange) (told telling : List Told_by) (stage : Stage) : Type 0 where
+pub record Under (opening : Opening) (who : Actor) (start : Stage) (old new : List Exchange) (told telling : List Told_by) (stage : Stage) : Type 0 where
   pub row : List Stage
   pub added : List Exchange
   pub said : List Told_by
   pub keeps : new ≡ old ++ added
   pub tells : telling ≡ told ++ said
-  pub leads : Leads marks who start row added said stage
+  pub leads : Leads opening who start row added said stage
 
-pub record Ran (marks : Watermarks) (who : Actor) (start : Stage) (old new : List Exchange) (told telling : List Told_by) : Type 0 where
+pub record Ran (opening : Opening) (who : Actor) (start : Stage) (old new : List Exchange) (told telling : List Told_by) : Type 0 where
   pub added : List Exchange
   pub said : List Told_by
   pub keeps : new ≡ old ++ added
   pub tells : telling ≡ told ++ said
-  pub runs : Answered marks who start added said
+  pub runs : Answered opening who start added said
 
 -- paths were looked up, and this became of the command
 pub record Looked (opening : Opening) (who : Actor) (what : Command) (old new : List Exchange) (judged : Judged) : Type 0 where
@@ -71,12 +70,12 @@ pub record Looked (opening : Opening) (who : Actor) (what : Command) (old new : 
   pub keeps : new ≡ old ++ finds_of (paths_of who what) found
   pub is : judged ≡ judged_with opening who what found
 
-pub record Judging (marks : Watermarks) (who : Actor) (judged : Judged) (old new : List Exchange) (told telling : List Told_by) : Type 0 where
+pub record Judging (opening : Opening) (who : Actor) (judged : Judged) (old new : List Exchange) (told telling : List Told_by) : Type 0 where
   pub added : List Exchange
   pub said : List Told_by
   pub keeps : new ≡ old ++ added
   pub tells : telling ≡ told ++ said
-  pub runs : JudgedRuns marks who judged added said
+  pub runs : JudgedRuns opening who judged added said
 
 pub record Did (opening : Opening) (who : Actor) (what : Command) (old new : List Exchange) (told telling : List Told_by) : Type 0 where
   pub added : List Exchange

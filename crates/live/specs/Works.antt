@@ -1,7 +1,6 @@
 -- Runs of commands by a worker: a row of turns like that of a schedule, but without the book and the disk, which others change meanwhile. A call of the book is one
 -- exchange; what the device answers is free; busy is no answer, and the state that met it is tried again; there is no limit of turns.
 use Rattle.std.specs.Prelude.{◌≡◌, ◌⊎◌, ℕ, List, [], ◌∷◌, ◌++◌, length, Result, Ok, Err, Option, false}
-use Rattle.machine.specs.declared.config.Watermarks.{Watermarks}
 use Rattle.machine.specs.declared.refusal.Refusal.TheVariants.{NoMemory}
 use Rattle.machine.specs.declared.command.Actor.{Actor}
 use Rattle.machine.specs.declared.command.Command.{Command}
@@ -33,10 +32,10 @@ use Rattle.live.specs.Exchanges.{finding}
 
 -- the book is asked this, whatever it is by then; what is asked and answered is noted, an arrival with the bytes that its ticket has. (Excludes an event that the table does not
 -- ask, an answer that the book did not give, and an arrival with other bytes than the device brought.)
-pub record Calls (remembers : Pending) (what : Event) (added : List Exchange) (transition : Transition) : Type 0 where
+pub record Calls (opening : Opening) (remembers : Pending) (what : Event) (added : List Exchange) (transition : Transition) : Type 0 where
   pub said : Reply
   pub kept : added ≡ Call (event_of what) (reply_of said) ∷ []
-  pub told : Told remembers said transition
+  pub told : Told opening.page_size remembers said transition
 
 -- the device reads the ticket's block into it, or fails
 pub record Reads (access : Access) (ticket : TicketOf) (added : List Exchange) (transition : Transition) : Type 0 where
@@ -52,16 +51,16 @@ pub record Writes (on : Resume) (ticket : TicketOf) (added : List Exchange) (tra
   pub goes : transition ≡ Goes (after_write on answered ticket)
 
 -- what is wanted is done. (Excludes a read that is told as failed to the book and as done to the task.)
-abbrev pub WantMade : Want → List Exchange → Transition → Type 0
-WantMade (want.Call remembers what) added transition = Calls remembers what added transition
-WantMade (want.Read access ticket) added transition = Reads access ticket added transition
-WantMade (want.Write on ticket) added transition = Writes on ticket added transition
-WantMade (want.End said) added transition = (added ≡ []) × (transition ≡ Ends said)
+abbrev pub WantMade : Opening → Want → List Exchange → Transition → Type 0
+WantMade opening (want.Call remembers what) added transition = Calls opening remembers what added transition
+WantMade opening (want.Read access ticket) added transition = Reads access ticket added transition
+WantMade opening (want.Write on ticket) added transition = Writes on ticket added transition
+WantMade opening (want.End said) added transition = (added ≡ []) × (transition ≡ Ends said)
 
 -- a turn of a command that stands there, with so many frames free
-pub record TurnMade (marks : Watermarks) (stage : Stage) (added : List Exchange) (transition : Transition) : Type 0 where
+pub record TurnMade (opening : Opening) (stage : Stage) (added : List Exchange) (transition : Transition) : Type 0 where
   pub free : ℕ
-  pub made : WantMade (wants marks free stage) added transition
+  pub made : WantMade opening (wants opening.watermarks free stage) added transition
 
 -- ---- rows of turns
 
@@ -73,39 +72,39 @@ GoesOn who (Waits on) said stage = (said ≡ []) × (stage ≡ resumes_at on)
 GoesOn who (Ends what) said stage = ⊥
 
 -- one turn, after which the command goes on
-pub record Link (marks : Watermarks) (who : Actor) (old : Stage) (added : List Exchange) (said : List Told_by) (new : Stage) : Type 0 where
+pub record Link (opening : Opening) (who : Actor) (old : Stage) (added : List Exchange) (said : List Told_by) (new : Stage) : Type 0 where
   pub transition : Transition
-  pub made : TurnMade marks old added transition
+  pub made : TurnMade opening old added transition
   pub goes : GoesOn who transition said new
 
 -- turns that lead from one state to another, the newest of the states between first
-abbrev pub Leads : Watermarks → Actor → Stage → List Stage → List Exchange → List Told_by → Stage → Type 0
-Leads marks who start [] added said end = (added ≡ []) × (said ≡ []) × (end ≡ start)
-Leads marks who start (last ∷ row) added said end =
+abbrev pub Leads : Opening → Actor → Stage → List Stage → List Exchange → List Told_by → Stage → Type 0
+Leads opening who start [] added said end = (added ≡ []) × (said ≡ []) × (end ≡ start)
+Leads opening who start (last ∷ row) added said end =
     (before : List Exchange) × (here : List Exchange) × (earlier : List Told_by) × (now : List Told_by)
-    × Leads marks who start row before earlier last × Link marks who last here now end × (added ≡ before ++ here) × (said ≡ earlier ++ now)
+    × Leads opening who start row before earlier last × Link opening who last here now end × (added ≡ before ++ here) × (said ≡ earlier ++ now)
 
 abbrev pub no_memory : Answer
 no_memory = answer.Word (word.Refused NoMemory)
 
 -- the last turn: it ends the command, or memory is wanted and refused: for room in the pass while no ticket is in hand, which adds nothing, or for a control
 -- file's text, which was shown. (Excludes a worker that gives up with a ticket in hand.)
-abbrev pub Closes : Watermarks → Stage → List Exchange → Answer → Type 0
-Closes marks stage added what =
-    TurnMade marks stage added (Ends what)
+abbrev pub Closes : Opening → Stage → List Exchange → Answer → Type 0
+Closes opening stage added what =
+    TurnMade opening stage added (Ends what)
     ⊎ ((what ≡ no_memory) × (holds stage ≡ false) × (added ≡ []))
-    ⊎ ((what ≡ no_memory) × (text : List ℕ) × TurnMade marks stage added (Ends (answer.Text text)))
+    ⊎ ((what ≡ no_memory) × (text : List ℕ) × TurnMade opening stage added (Ends (answer.Text text)))
 
 -- a command that stands there is answered
-pub record Answered (marks : Watermarks) (who : Actor) (start : Stage) (added : List Exchange) (said : List Told_by) : Type 0 where
+pub record Answered (opening : Opening) (who : Actor) (start : Stage) (added : List Exchange) (said : List Told_by) : Type 0 where
   pub row : List Stage
   pub last : Stage
   pub before : List Exchange
   pub here : List Exchange
   pub earlier : List Told_by
   pub what : Answer
-  pub leads : Leads marks who start row before earlier last
-  pub closes : Closes marks last here what
+  pub leads : Leads opening who start row before earlier last
+  pub closes : Closes opening last here what
   pub keeps : added ≡ before ++ here
   pub tells : said ≡ earlier ++ answer_by who what
 
@@ -118,16 +117,16 @@ finds_of (path ∷ paths) [] = []
 finds_of (path ∷ paths) (g ∷ found) = finding path g ∷ finds_of paths found
 
 -- what was judged has ended, or runs from where it stands
-abbrev pub JudgedRuns : Watermarks → Actor → Judged → List Exchange → List Told_by → Type 0
-JudgedRuns marks who (Err why) added said = (added ≡ []) × (said ≡ answer_by who (answer.Word (word.Refused why)))
-JudgedRuns marks who (Ok stage) added said = Answered marks who stage added said
+abbrev pub JudgedRuns : Opening → Actor → Judged → List Exchange → List Told_by → Type 0
+JudgedRuns opening who (Err why) added said = (added ≡ []) × (said ≡ answer_by who (answer.Word (word.Refused why)))
+JudgedRuns opening who (Ok stage) added said = Answered opening who stage added said
 
 -- its paths are looked up once, the rest is judged with what was found, and it runs. (Excludes a path that is looked up again.)
 pub record Begins (opening : Opening) (who : Actor) (what : Command) (added : List Exchange) (said : List Told_by) : Type 0 where
   pub found : List (Option ℕ)
   pub later : List Exchange
   pub each : length found ≡ length (paths_of who what)
-  pub runs : JudgedRuns opening.watermarks who (judged_with opening who what found) later said
+  pub runs : JudgedRuns opening who (judged_with opening who what found) later said
   pub keeps : added ≡ finds_of (paths_of who what) found ++ later
 
 -- one command; or memory for it is refused at once

@@ -28,6 +28,7 @@ use crate::shares::has_share;
 use block_store::SharedDevice;
 use book::Book;
 use machine::config::{Config, Placement, Watermarks};
+use machine::page_size::PageSize;
 use machine::refusal::Refusal;
 use std::alloc::{AllocError, Global};
 use std::sync::{Condvar, Mutex, Wait};
@@ -49,9 +50,11 @@ pub struct Live<L: Opened, D: SharedDevice> {
     pub device: D,
     pub(crate) marks: Watermarks,
     pub(crate) placement: Placement,
+    pub(crate) page_size: PageSize,
     pub(crate) alloc: Global,
     ghost marked: { marks ≡ L.opening.watermarks },
     ghost placed: { placement ≡ L.opening.placement },
+    ghost paged: { page_size.bytes ≡ L.opening.page_size },
     ghost fits: { blocks_in L.opening ≤ D.extent device },
 }
 
@@ -74,6 +77,7 @@ impl<L: Opened, D: SharedDevice> Live<L, D> {
     {
         let marks = config.watermarks;
         let placement = config.placement;
+        let page_size = config.page_size;
         let frames = config.frames;
         let book = match Book::open(alloc, config) {
             Err(cause) => return Err((device, cause)),
@@ -94,11 +98,19 @@ impl<L: Opened, D: SharedDevice> Live<L, D> {
                     device,
                     marks,
                     placement,
+                    page_size,
                     alloc,
                 };
                 Ok((live, Roll::new(front)))
             }
         }
+    }
+
+    /// How many bytes a page stands for in amounts and texts, as the configuration says.
+    pub fn page_size(&self) -> PageSize
+        ensures { result.bytes ≡ L.opening.page_size }
+    {
+        self.page_size
     }
 
     /// A pass for another worker, which the roll counts. `NoSpace` if 131,072 passes were given out. Otherwise
@@ -218,6 +230,7 @@ impl<L: Opened, D: SharedDevice + Drop> Live<L, D> {
             device,
             marks: _,
             placement: _,
+            page_size: _,
             alloc: _,
         } = self;
         let (trace, passes, looks) = shared.into_inner().settle(passes, roll, paths, room);
@@ -242,6 +255,7 @@ impl<L: Opened, D: SharedDevice + Drop> Live<L, D> {
             device: _,
             marks: _,
             placement: _,
+            page_size: _,
             alloc: _,
         } = self;
         let _trace = shared.into_inner().close();

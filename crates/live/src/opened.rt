@@ -20,7 +20,7 @@ impl Opened for Brand {
     ghost use Rattle.std.specs.Prelude.{[], false};
     ghost use Rattle.machine.specs.declared.config.Placement.TheVariants.{Own};
 
-    ghost opening = { record { frames = 0; swap = 0; files = []; watermarks = record { low = 0; high = 0 }; trace_limit = 0; recursive = false; placement = Own } };
+    ghost opening = { record { frames = 0; swap = 0; files = []; watermarks = record { low = 0; high = 0 }; trace_limit = 0; recursive = false; placement = Own; page_size = 4096 } };
 
     ghost table = { record { words = 1; slots = 0; views_name = 0; atom = 0; block = 0; offset = 0; slot_names = [] } };
 }

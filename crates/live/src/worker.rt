@@ -105,8 +105,8 @@ impl<L: Opened, D: SharedDevice> Live<L, D> {
         requires own { OwnEvent pass.old.caller.worker (blocks_in L.opening) event }
         requires hand { HasEvent pass.old.exchanges event }
         requires awaits { AwaitsAll (Want.Call pending event) }
-        ensures made { IfOk result (λ t. CallMade pending event pass.old.exchanges pass.new.exchanges t) }
-        ensures wants { OnErr result (CallWants pending event pass.old.exchanges pass.new.exchanges) }
+        ensures made { IfOk result (λ t. CallMade L.opening pending event pass.old.exchanges pass.new.exchanges t) }
+        ensures wants { OnErr result (CallWants L.opening pending event pass.old.exchanges pass.new.exchanges) }
         ensures own { IfOk result (λ t. OwnTransition pass.old.caller.worker (blocks_in L.opening) t) }
         ensures caller { pass.new.caller ≡ pass.old.caller }
         ensures room { pass.new.room + 1 ≡ pass.old.room }
@@ -116,7 +116,7 @@ impl<L: Opened, D: SharedDevice> Live<L, D> {
     {
         let marks = pending.marks_hit(self.placement);
         let reply = self.call(rt, pass, event, marks);
-        told(self.alloc, pending, reply)
+        told(self.alloc, self.page_size, pending, reply)
     }
 
     /// Reads the ticket's block. No lock is held.
@@ -156,8 +156,8 @@ impl<L: Opened, D: SharedDevice> Live<L, D> {
         requires room { 0 < pass.old.room }
         requires own { OwnStage pass.old.caller.worker (blocks_in L.opening) stage }
         requires hand { HasStage pass.old.exchanges stage }
-        ensures made { IfOk result (λ t. Made L.opening.watermarks stage pass.old.exchanges pass.new.exchanges t) }
-        ensures wants { OnErr result (Wants L.opening.watermarks stage pass.old.exchanges pass.new.exchanges) }
+        ensures made { IfOk result (λ t. Made L.opening stage pass.old.exchanges pass.new.exchanges t) }
+        ensures wants { OnErr result (Wants L.opening stage pass.old.exchanges pass.new.exchanges) }
         ensures own { IfOk result (λ t. OwnTransition pass.old.caller.worker (blocks_in L.opening) t) }
         ensures caller { pass.new.caller ≡ pass.old.caller }
         ensures room { pass.old.room ≤ pass.new.room + 1 }
@@ -226,8 +226,8 @@ impl<L: Opened, D: SharedDevice> Live<L, D> {
         requires hand { HasStage pass.old.exchanges stage }
         requires held { holds stage ≡ true → (0 < pass.old.room) × (vec_len answers.old + spare + 1 < vec_capacity answers.old) }
         requires space { vec_len answers.old + spare < vec_capacity answers.old }
-        ensures goes { IfSome result (λ next. Linked L.opening.watermarks actor stage pass.old.exchanges pass.new.exchanges answers.old.items answers.new.items next) }
-        ensures ends { IfNone result (Closed L.opening.watermarks actor stage pass.old.exchanges pass.new.exchanges answers.old.items answers.new.items) }
+        ensures goes { IfSome result (λ next. Linked L.opening actor stage pass.old.exchanges pass.new.exchanges answers.old.items answers.new.items next) }
+        ensures ends { IfNone result (Closed L.opening actor stage pass.old.exchanges pass.new.exchanges answers.old.items answers.new.items) }
         ensures own { IfSome result (λ next. OwnStage pass.new.caller.worker (blocks_in L.opening) next) }
         ensures hand { IfSome result (λ next. HasStage pass.new.exchanges next) }
         ensures caller { pass.new.caller ≡ pass.old.caller }
@@ -278,7 +278,7 @@ impl<L: Opened, D: SharedDevice> Live<L, D> {
     )
         requires free { holds stage ≡ false }
         requires space { vec_len answers.old + spare < vec_capacity answers.old }
-        ensures ran { Ran L.opening.watermarks actor stage pass.old.exchanges pass.new.exchanges answers.old.items answers.new.items }
+        ensures ran { Ran L.opening actor stage pass.old.exchanges pass.new.exchanges answers.old.items answers.new.items }
         ensures caller { pass.new.caller ≡ pass.old.caller }
         ensures left { vec_len answers.new + spare ≤ vec_capacity answers.new }
         ensures share { Carries pass.old.kept 0 pass.new.kept 0 }
@@ -332,7 +332,7 @@ impl<L: Opened, D: SharedDevice> Live<L, D> {
     )
         requires space { vec_len answers.old + spare < vec_capacity answers.old }
         requires free { IfOk judged (λ stage. holds stage ≡ false) }
-        ensures runs { Judging L.opening.watermarks actor judged pass.old.exchanges pass.new.exchanges answers.old.items answers.new.items }
+        ensures runs { Judging L.opening actor judged pass.old.exchanges pass.new.exchanges answers.old.items answers.new.items }
         ensures caller { pass.new.caller ≡ pass.old.caller }
         ensures left { vec_len answers.new + spare ≤ vec_capacity answers.new }
         ensures share { Carries pass.old.kept 0 pass.new.kept 0 }

@@ -1,14 +1,14 @@
 -- A group that is removed: the tree's chains stay, its pages keep their places, and so does what is charged above it.
-use Rattle.std.proofs.Common.{◌≡◌, ◌≢◌, ℕ, zero, suc, ◌==◌, ◌&&◌, ◌||◌, Bool, true, false, cond, List, [], ◌∷◌, Option, Some, None, eqb-true, ne_eqb, refl, sym, ap, ◌∙◌, arith}
-use Rattle.std.specs.Prelude.{slice_set, option_map, IfSome}
+use Rattle.std.proofs.Common.{◌≡◌, ◌≢◌, inl, inr, ℕ, zero, suc, ◌||◌, Bool, true, false, List, [], ◌∷◌, Option, Some, ne_eqb, refl, sym, ap, ◌∙◌, arith}
+use Rattle.std.specs.Prelude.{◌≤◌, ◌⊎◌, slice_set}
 use Rattle.std.proofs.lemmas.List.{get_or-set_other}
 use Rattle.std.proofs.lemmas.List.Sums.{sum_by-cons}
 use Rattle.machine.specs.Slots.{at, there_and, count_there}
 use Rattle.machine.specs.Tree.{Node, no_node, node_at, is_live, chain, is_child, has_children, under_at, under, IsTree, without_group}
-use Rattle.machine.specs.Pages.{Page, page_at, has_frame, is_charged, charged}
-use Rattle.machine.specs.State.{State, usage}
-use Rattle.machine.specs.Step.{regrouped, Removes}
-use Rattle.machine.proofs.Values.{some_inj, never_some}
+use Rattle.machine.specs.declared.config.Placement.{Placement}
+use Rattle.machine.specs.declared.config.Placement.TheVariants.{Own, Linux}
+use Rattle.machine.specs.Pages.{Residence, Held, Coming, Going, Away}
+use Rattle.machine.specs.Step.{heir}
 use Rattle.machine.proofs.TreeLemmas.{same_chain, same_under, under_at-step}
 use Rattle.machine.proofs.SlotLemmas.{one_if}
 
@@ -65,19 +65,17 @@ under-parent tree falls a g p below other =
 
 -- ---- its pages
 
--- what does not look at a page's group sees no change
-pub regrouped-test : (test : Page → Bool) (from to : ℕ) → ((page : Page) → test (regrouped from to page) ≡ test page) → (slot : Option Page) → there_and test (option_map (regrouped from to) slot) ≡ there_and test slot
-regrouped-test test from to same None = refl
-regrouped-test test from to same (Some page) = same page
+-- a page of a removed group becomes its parent's or the root's
+pub heir-either : (placement : Placement) (parent : ℕ) (r : Residence) → (heir placement parent r ≡ parent) ⊎ (heir placement parent r ≡ 0)
+heir-either Own parent r = inl refl
+heir-either Linux parent (Held frame) = inl refl
+heir-either Linux parent (Coming frame block ticket) = inl refl
+heir-either Linux parent (Going frame block ticket) = inl refl
+heir-either Linux parent (Away block) = inr refl
 
-pub regrouped-some : (P Q : Page → Type 0) (from to : ℕ) → ((page : Page) → P page → Q (regrouped from to page)) → (slot : Option Page) → IfSome slot P → IfSome (option_map (regrouped from to) slot) Q
-regrouped-some P Q from to on None h = h
-regrouped-some P Q from to on (Some page) h = on page h
-
--- a page that is there was there, with another group at most
-pub regrouped-was : (from to : ℕ) (slot : Option Page) (now : Page) → option_map (regrouped from to) slot ≡ Some now → (page : Page) × (slot ≡ Some page) × (now ≡ regrouped from to page)
-regrouped-was from to None now e = absurd (never_some {P = ⊥} {T = Page} None refl e)
-regrouped-was from to (Some page) now e = (page, refl, sym (some_inj e))
+-- which is no later than the parent
+pub heir-low : (placement : Placement) (parent : ℕ) (r : Residence) → heir placement parent r ≤ parent
+heir-low placement parent r = elim (heir-either placement parent r) [ inl up ↦ omega (arith, up) | inr root ↦ omega (arith, root) ]
 
 -- ---- what is charged
 
@@ -100,19 +98,3 @@ count-alike {T} test test' (x ∷ xs) (y ∷ ys) same =
     let here : one_if (there_and test' y) ≡ one_if (there_and test x) = ap one_if (same 0) in
     let rest = count-alike test test' xs ys (λ n. same (suc n)) in
     omega (arith, more, more', here, rest)
-
-module _ (old new : State) (g : ℕ) (falls : IsTree old.tree) (removes : Removes old g new) where
-  charged-at : (a : ℕ) → a ≢ g → (slot : Option Page) → there_and (is_charged (without_group old.tree g) a) (option_map (regrouped g removes.parent) slot) ≡ there_and (is_charged old.tree a) slot
-  charged-at a other None = refl
-  charged-at a other (Some page) = ap (λ (b : Bool). has_frame page && b) (without-under old.tree g a (Some (cond (page.group == g) removes.parent page.group)) ∙ by_group (page.group == g) refl)
-    where
-      by_group : (b : Bool) → (page.group == g) ≡ b → under old.tree a (cond b removes.parent page.group) ≡ under old.tree a page.group
-      by_group true is = sym (under-parent old.tree falls a g removes.parent removes.below other) ∙ ap (under old.tree a) (sym (eqb-true page.group g is))
-      by_group false is = refl
-
-  -- every other group is charged for as much as before
-  pub usage-removed : (a : ℕ) → a ≢ g → usage new a ≡ usage old a
-  usage-removed a other =
-      ap (λ (s : State). charged s.tree new.pages a) removes.state
-      ∙ count-alike (is_charged old.tree a) (is_charged (without_group old.tree g) a) old.pages new.pages
-      (λ n. ap (there_and (is_charged (without_group old.tree g) a)) (removes.pages n) ∙ charged-at a other (page_at old.pages n))

@@ -1,5 +1,7 @@
 -- What an access meets (mm/memory.c: handle_mm_fault).
-use Rattle.std.specs.Prelude.{ℕ, ◌&&◌, nat_lt, Bool, true, false, if◌then◌else◌, slice_index, Option, Some, None}
+use Rattle.std.specs.Prelude.{ℕ, ◌==◌, ◌&&◌, nat_lt, Bool, true, false, if◌then◌else◌, slice_index, Option, Some, None}
+use Rattle.machine.specs.declared.config.Placement.{Placement}
+use Rattle.machine.specs.declared.config.Placement.TheVariants.{Linux}
 use Rattle.machine.specs.declared.event.Place.{Place}
 use Rattle.machine.specs.declared.event.Place.TheVariants.{Virtual, File}
 use Rattle.machine.specs.declared.event.Op.{Op}
@@ -8,7 +10,7 @@ use Rattle.machine.specs.Pages.{Residence, Held, Coming, Going, Away, Page, Page
 use Rattle.machine.specs.Tasks.{PageTables, mapped_at, mappers}
 use Rattle.machine.specs.State.{Opening, State}
 
--- bytes in a page, and virtual pages of a task
+-- bytes of a page's content, whatever the page stands for in amounts (`page_size` of an `Opening`); and virtual pages of a task
 abbrev pub page_size : ℕ
 page_size = 4096
 
@@ -79,13 +81,20 @@ abbrev pub meets : State → ℕ → Place → Op → Meeting
 meets s t (Virtual v offset) op = meets_mapped s v (mapped_at s.page_tables t v) op
 meets s t (File file q offset) op = meets_cached s.pages file q (file_page s.pages file q)
 
--- the group that an access would charge: the page's own for a swap-in, else the accessor's; None where it needs no charge
-abbrev pub charges : Meeting → ℕ → Option ℕ
-charges (NeedsSwapIn p page block) own = Some page.group
-charges (NeedsPage v) own = Some own
-charges (NeedsCopy v) own = Some own
-charges (NeedsRead file q) own = Some own
-charges meeting own = None
+-- the group that a swap-in charges: the page's own. By Linux's placement a page of the root is charged to the group of the task that reads it in. On its block such a page was one of a removed
+-- group (kernel: mem_cgroup_swapin_charge_folio), or one of the root itself, which in Linux stays the root's. (Excludes a reader that is charged by our own placement, and one that is charged
+-- for a page of another group that is there.)
+abbrev pub charged_from_swap : Placement → ℕ → ℕ → ℕ
+charged_from_swap Linux g own = if g == 0 then own else g
+charged_from_swap placement g own = g
+
+-- the group that an access would charge: for a swap-in the page's or the accessor's, else the accessor's; None where it needs no charge
+abbrev pub charges : Placement → Meeting → ℕ → Option ℕ
+charges placement (NeedsSwapIn p page block) own = Some (charged_from_swap placement page.group own)
+charges placement (NeedsPage v) own = Some own
+charges placement (NeedsCopy v) own = Some own
+charges placement (NeedsRead file q) own = Some own
+charges placement meeting own = None
 
 -- it would begin a transfer
 abbrev pub is_fetch : Meeting → Bool

@@ -66,7 +66,7 @@ is_granted s (Some g) = is_none (over_in s g) && is_frame_free s
 
 -- it begins to read a page in
 abbrev pub meeting_fetches : State → ℕ → Meeting → Bool
-meeting_fetches s g meeting = is_fetch meeting && is_granted s (charges meeting g)
+meeting_fetches s g meeting = is_fetch meeting && is_granted s (charges s.opening.placement meeting g)
 
 abbrev pub life_fetches : State → ℕ → Place → Op → Task → Life → Bool
 life_fetches s t place op task Live = meeting_fetches s task.group.0 (meets s t place op)

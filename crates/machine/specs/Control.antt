@@ -1,6 +1,7 @@
 -- Control files: their names, who has them, amounts and texts (admin-guide/cgroup-v2, "Memory Interface Files", "Conventions").
 use Rattle.std.specs.Prelude.{ℕ, ◌*◌, ◌/◌, ◌-◌, ◌^◌, ◌==◌, ◌&&◌, ◌||◌, nat_lt, nat_eq, not, Bool, true, if◌then◌else◌, List, [], ◌∷◌, ◌++◌, length, take, drop, slice_index, codes, decimal, Option, Some, None}
 use Rattle.std.specs.List.{list_all, starts_with}
+use Rattle.std.specs.Option.{option_map}
 use Rattle.std.specs.Str.{bytes_eq}
 use Rattle.std.specs.Str.Parse.{digits_value}
 use Rattle.machine.specs.declared.amount.Amount.{Amount}
@@ -17,7 +18,7 @@ use Rattle.machine.specs.declared.record.MemoryStat.{MemoryStat}
 use Rattle.machine.specs.declared.reply.Shown.{Shown}
 use Rattle.machine.specs.declared.reply.Shown.TheVariants as shown
 use Rattle.machine.specs.Numbers.{is_numeral}
-use Rattle.machine.specs.Access.{page_size}
+use Rattle.machine.specs.Amounts.{is_page_size}
 
 -- ---- amounts
 
@@ -45,12 +46,21 @@ is_plain digits = is_numeral digits && (length digits == 1 || nat_lt 48 (slice_i
 abbrev pub product : List ℕ → ℕ
 product text = digits_value 10 (digits_part text) * last_unit text
 
--- `max`, or a number of bytes with at most one of the suffixes K, M, G, T, below 2^64, rounded down to whole pages
-abbrev pub amount_of : List ℕ → Option Amount
-amount_of text =
-    if bytes_eq text (codes "max") then Some Max
-    else if is_plain (digits_part text) && nat_lt (product text) (2 ^ 64) then Some (Pages (product text / page_size))
-    else None
+-- a number of bytes with at most one of the suffixes K, M, G, T, below 2^64
+abbrev pub plain_amount : List ℕ → Option ℕ
+plain_amount text = if is_plain (digits_part text) && nat_lt (product text) (2 ^ 64) then Some (product text) else None
+
+-- `max`, or a plain amount, rounded down to whole pages of this size. (Excludes pages that always have 4,096 bytes.)
+abbrev pub amount_of : ℕ → List ℕ → Option Amount
+amount_of page_size text = if bytes_eq text (codes "max") then Some Max else option_map (λ bytes. Pages (bytes / page_size)) (plain_amount text)
+
+abbrev pub if_page_size : Option ℕ → Option ℕ
+if_page_size None = None
+if_page_size (Some bytes) = if is_page_size bytes then Some bytes else None
+
+-- a plain amount that a page may stand for. (Excludes `max`, and an amount that is rounded.)
+abbrev pub page_size_of : List ℕ → Option ℕ
+page_size_of text = if_page_size (plain_amount text)
 
 -- ---- flags
 
@@ -91,12 +101,13 @@ flag_written Linux text = flag_spelled text
 abbrev pub line : List ℕ → List ℕ
 line text = text ++ 10 ∷ []
 
-abbrev pub bytes_text : ℕ → List ℕ
-bytes_text pages = decimal (pages * page_size)
+-- so many pages of this size, in bytes
+abbrev pub bytes_text : ℕ → ℕ → List ℕ
+bytes_text page_size pages = decimal (pages * page_size)
 
-abbrev pub amount_text : Amount → List ℕ
-amount_text Max = codes "max"
-amount_text (Pages n) = bytes_text n
+abbrev pub amount_text : ℕ → Amount → List ℕ
+amount_text page_size Max = codes "max"
+amount_text page_size (Pages n) = bytes_text page_size n
 
 abbrev pub flag_text : OomGroup → List ℕ
 flag_text Single = codes "0"
@@ -117,16 +128,16 @@ events_text counts =
     ++ key_line (codes "oom_group_kill") counts.oom_group_kill))))
 
 -- the two types in order, in bytes
-abbrev pub stat_text : MemoryStat → List ℕ
-stat_text stat = key_line (codes "anon") (stat.anon * page_size) ++ key_line (codes "file") (stat.file * page_size)
+abbrev pub stat_text : ℕ → MemoryStat → List ℕ
+stat_text page_size stat = key_line (codes "anon") (stat.anon * page_size) ++ key_line (codes "file") (stat.file * page_size)
 
--- what a control file says: bytes, or `max`, or a flag, or a line for each key or type
-abbrev pub text_of : Shown → List ℕ
-text_of (shown.Pages n) = line (bytes_text n)
-text_of (shown.Amount amount) = line (amount_text amount)
-text_of (shown.Flag flag) = line (flag_text flag)
-text_of (shown.Events counts) = events_text counts
-text_of (shown.Stat stat) = stat_text stat
+-- what a control file says with pages of this size: bytes, or `max`, or a flag, or a line for each key or type
+abbrev pub text_of : ℕ → Shown → List ℕ
+text_of page_size (shown.Pages n) = line (bytes_text page_size n)
+text_of page_size (shown.Amount amount) = line (amount_text page_size amount)
+text_of page_size (shown.Flag flag) = line (flag_text flag)
+text_of page_size (shown.Events counts) = events_text counts
+text_of page_size (shown.Stat stat) = stat_text page_size stat
 
 -- ---- files
 

@@ -1,6 +1,7 @@
 pub mod Names
 pub mod Numbers
 pub mod Amounts
+pub mod PageSizes
 pub mod Slots
 pub mod Tree
 pub mod Pages

@@ -1,5 +1,5 @@
 -- The state of the plain machine: what the opening fixed, and its tables. Nothing in it is linked or kept twice, and nothing is counted in it but events.
-use Rattle.std.specs.Prelude.{ℕ, ◌+◌, ◌-◌, ◌&&◌, nat_lt, nat_le, not, Bool, true, false, List, [], ◌∷◌, length, map, sum, Option}
+use Rattle.std.specs.Prelude.{ℕ, ◌+◌, ◌-◌, ◌&&◌, nat_lt, nat_le, not, Bool, true, List, [], ◌∷◌, length, map, sum, Option}
 use Rattle.std.specs.List.{list_all, list_any}
 use Rattle.std.specs.Str.{bytes_eq}
 use Rattle.machine.specs.declared.amount.Amount.{Amount}
@@ -21,8 +21,8 @@ use Rattle.machine.specs.declared.record.EventCounts.{EventCounts}
 use Rattle.machine.specs.Counts.{no_limits, no_counts, over}
 use Rattle.machine.specs.Protection.{effective, setting_of}
 
--- what the opening fixes: frames, swap blocks, the sizes of the files in pages, the daemon's marks, the trace's limit, whether protection is recursive, and where pages enter that are
--- read in
+-- what the opening fixes: frames, swap blocks, the sizes of the files in pages, the daemon's marks, the trace's limit, whether protection is recursive, where pages enter that are
+-- read in, and how many bytes a page stands for in amounts and texts (its content has `page_size` of `Access` bytes)
 pub record Opening : Type 0 where
   pub frames : ℕ
   pub swap : ℕ
@@ -31,6 +31,7 @@ pub record Opening : Type 0 where
   pub trace_limit : ℕ
   pub recursive : Bool
   pub placement : Placement
+  pub page_size : ℕ
 
 -- how many page numbers there are: as many as pages at most, of which each has a frame or a swap block
 abbrev pub page_numbers : Opening → ℕ
@@ -42,7 +43,7 @@ sizes_of files = map (λ file. file.pages) files
 
 -- the opening that a configuration asks for
 abbrev pub opening_of : Config → Opening
-opening_of config = record { frames = config.frames; swap = config.swap; files = sizes_of config.files; watermarks = config.watermarks; trace_limit = config.trace; recursive = config.recursive; placement = config.placement }
+opening_of config = record { frames = config.frames; swap = config.swap; files = sizes_of config.files; watermarks = config.watermarks; trace_limit = config.trace; recursive = config.recursive; placement = config.placement; page_size = config.page_size.bytes }
 
 -- the low mark is at most the high one, and that at most the frames
 abbrev pub are_watermarks : Watermarks → ℕ → Bool

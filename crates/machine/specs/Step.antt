@@ -6,6 +6,8 @@ use Rattle.machine.specs.declared.record.Key.TheVariants as key
 use Rattle.machine.specs.declared.record.Life.{Life}
 use Rattle.machine.specs.declared.record.Life.TheVariants.{Live, Exited, Killed}
 use Rattle.machine.specs.declared.record.Task.{Task}
+use Rattle.machine.specs.declared.config.Placement.{Placement}
+use Rattle.machine.specs.declared.config.Placement.TheVariants.{Linux}
 use Rattle.machine.specs.declared.event.Op.{Op}
 use Rattle.machine.specs.declared.event.Op.TheVariants.{Read, Write}
 use Rattle.machine.specs.declared.event.Cause.{Cause}
@@ -29,7 +31,7 @@ use Rattle.machine.specs.declared.record.EventCounts.{EventCounts}
 use Rattle.machine.specs.Counts.{no_limits, limits_at, guard_of, with_guard, no_counts, with_event, with_events, local, total, counts_by}
 use Rattle.machine.specs.Tasks.{PageTables, mapped_at, task_at, task_of, SetsTask, group_of_task, mappers, Shows, Copies, ShowsNothing}
 use Rattle.machine.specs.State.{State, page_numbers, usage, over_in, is_frame_free, effective_in, stat_of}
-use Rattle.machine.specs.Access.{Meeting, Unmapped, Hits, Transferring, NeedsPage, NeedsCopy, NeedsSwapIn, NeedsRead, Dangling, meets}
+use Rattle.machine.specs.Access.{Meeting, Unmapped, Hits, Transferring, NeedsPage, NeedsCopy, NeedsSwapIn, NeedsRead, Dangling, meets, charged_from_swap}
 use Rattle.machine.specs.Reclaim.{is_next, counted_at_take, has_takeable, has_transfer, stands, target_of}
 use Rattle.machine.specs.Victim.{flag_at, is_candidate, IsVictim, kill_group_of, killed_with, counts_of_group_kill}
 
@@ -114,6 +116,10 @@ abbrev pub UnmappedStep : State → Reply → State → Type 0
 UnmappedStep old (reply.Done byte hit) new = (hit ≡ None) × (new ≡ old)
 UnmappedStep old answer new = ⊥
 
+-- a page comes back from its swap block, charged to the group
+abbrev pub FetchesSwapped : State → ℕ → Page → ℕ → ℕ → Reply → State → Type 0
+FetchesSwapped old p page block g answer new = TriesCharge old g (StartsFetch old p g page.content block answer new) answer new
+
 -- (Excludes an answer to an access through a mapping of a page that is not there, and a file's page that is charged to whoever touches it last.)
 abbrev pub MeetStep : State → ℕ → ℕ → Op → Meeting → Reply → State → Type 0
 MeetStep old t g op Unmapped answer new = UnmappedStep old answer new
@@ -121,7 +127,7 @@ MeetStep old t g op (Hits p page frame) answer new = HitStep old p page frame op
 MeetStep old t g op Transferring answer new = Only old reply.Busy answer new
 MeetStep old t g op (NeedsPage v) answer new = TriesCharge old g (MakesPage old t v g op answer new) answer new
 MeetStep old t g op (NeedsCopy v) answer new = TriesCharge old g (MakesPage old t v g op answer new) answer new
-MeetStep old t g op (NeedsSwapIn p page block) answer new = TriesCharge old page.group (StartsFetch old p page.group page.content block answer new) answer new
+MeetStep old t g op (NeedsSwapIn p page block) answer new = FetchesSwapped old p page block (charged_from_swap old.opening.placement page.group g) answer new
 MeetStep old t g op (NeedsRead file q) answer new = TriesCharge old g (ReadsFile old file q g answer new) answer new
 MeetStep old t g op Dangling answer new = ⊥
 
@@ -282,16 +288,23 @@ pub record EndsTransfer (old : State) (from : ℕ → ℕ → Residence) (to : P
 abbrev pub new_node : List Node → List ℕ → Node
 new_node tree path = record { parent = find_group tree (parent_path path); path = path; live = true }
 
--- a page of the one group is of the other
-abbrev pub regrouped : ℕ → ℕ → Page → Page
-regrouped from to page = record { content = page.content; group = if page.group == from then to else page.group; dirty = page.dirty; residence = page.residence }
+-- the group that a page of a removed group becomes a page of: the parent. By Linux's placement a page that is on its block alone becomes the root's, and one still in transfer the parent's
+-- (kernel: mem_cgroup_id_get_online)
+abbrev pub heir : Placement → ℕ → Residence → ℕ
+heir Linux parent (Away block) = 0
+heir placement parent residence = parent
 
--- a group goes, and all its pages, in transfer and on their blocks too, are its parent's. (Excludes a removal that gives pages back to the pool, or leaves those behind that have no
--- frame.)
+-- a page of the one group is of the other, or by Linux's placement of the root
+abbrev pub regrouped : Placement → ℕ → ℕ → Page → Page
+regrouped placement from to page =
+    record { content = page.content; group = if page.group == from then heir placement to page.residence else page.group; dirty = page.dirty; residence = page.residence }
+
+-- a group goes, and all its pages, in transfer and on their blocks too, are its parent's, but by Linux's placement those on their blocks alone are the root's. (Excludes a removal that gives
+-- pages back to the pool, or leaves those behind that have no frame.)
 pub record Removes (old : State) (g : ℕ) (new : State) : Type 0 where
   pub parent : ℕ
   pub below : (node_at old.tree g).parent ≡ Some parent
-  pub pages : (p : ℕ) → page_at new.pages p ≡ option_map (regrouped g parent) (page_at old.pages p)
+  pub pages : (p : ℕ) → page_at new.pages p ≡ option_map (regrouped old.opening.placement g parent) (page_at old.pages p)
   pub state : new ≡ record old { tree = without_group old.tree g; pages = new.pages }
 
 -- other limits for a group

@@ -8,7 +8,7 @@ ghost use Rattle.machine.specs.Amounts.{exceeds, at_most};
 pub enum Amount {
     /// More than every count.
     Max,
-    /// This many pages of 4,096 bytes.
+    /// This many pages. The [page size](crate::page_size::PageSize) says how many bytes a page stands for.
     Pages(u64),
 }
 

@@ -1,13 +1,17 @@
 //! What the opening of a run determines.
 
-ghost use Rattle.std.specs.Prelude.{◌≡◌, ◌++◌, ◌∷◌, [], OnOk, OnErr};
+ghost use Rattle.std.specs.Prelude.{◌≡◌, ℕ, ◌++◌, ◌∷◌, [], OnOk, OnErr};
+ghost use Rattle.machine.specs.Access.{charged_from_swap};
 ghost use Rattle.machine.specs.Lists.{hits_to_mark};
 ghost use Rattle.machine.specs.Order.{heeds_age, takes_parts};
+ghost use Rattle.machine.specs.Pages.{Away};
 ghost use Rattle.machine.specs.State.{are_watermarks, is_sized};
+ghost use Rattle.machine.specs.Step.{heir};
 
 use crate::event::Goal;
 use crate::id::GroupId;
 use crate::limit::{MOST_ENTRIES, MOST_FRAMES, MOST_SWAP};
+use crate::page_size::PageSize;
 use crate::record::Kind;
 use crate::text::Text;
 use std::alloc::{AllocError, Global};
@@ -81,9 +85,9 @@ impl FileList {
     }
 }
 
-/// Which generation list a page enters when it is read in, how many accesses mark a page, and which groups a reclaim asks
-/// first. Under both rules, memory that a task makes or copies enters the youngest generation. So does a
-/// page that could not be written out.
+/// Which generation list a page enters when it is read in, how many accesses mark a page, which groups a reclaim asks
+/// first, and who is charged for memory that comes from swap after its group was removed. Under both rules, memory that
+/// a task makes or copies enters the youngest generation. So does a page that could not be written out.
 #[derive(Clone, Copy, Debug, PartialEq, Eq)]
 pub enum Placement {
     /// Our own rule: every page that is read in enters the second youngest generation, and the access marks it. A
@@ -92,7 +96,8 @@ pub enum Placement {
     /// Linux's rule (kernel: `lru_gen_add_folio`): memory that comes from swap enters the youngest generation. A page
     /// of a file enters the second oldest, unless that is one of the two youngest; then it enters the oldest. The
     /// fifth access marks a page of a file, and the one that reads it in is the first (kernel: `folio_inc_refs`). A
-    /// reclaim for one page, or of the root, first asks the groups with an old page of a file.
+    /// reclaim for one page, or of the root, first asks the groups with an old page of a file. Swapped memory of a
+    /// removed group is charged to whoever reads it in.
     Linux,
 }
 
@@ -126,6 +131,28 @@ impl Placement {
             (Placement::Own, _) | (Placement::Linux, Kind::Anon) => 1,
         }
     }
+
+    /// The group that is charged for memory of a group that comes from swap: that group. By Linux's rule the reader's,
+    /// if the memory is the root's (kernel: `mem_cgroup_swapin_charge_folio`).
+    pub fn charged_from_swap(self, group: GroupId, reader: GroupId) -> GroupId
+        ensures { result.0 ≡ charged_from_swap self group.0 reader.0 }
+    {
+        if self == Placement::Linux && group == GroupId::ROOT {
+            reader
+        } else {
+            group
+        }
+    }
+
+    /// The group that memory on its swap block belongs to after its own group was removed, which was below the parent.
+    pub fn heir_of_swapped(self, parent: GroupId) -> GroupId
+        ensures { (block : ℕ) → result.0 ≡ heir self parent.0 (Away block) }
+    {
+        match self {
+            Placement::Own => parent,
+            Placement::Linux => GroupId::ROOT,
+        }
+    }
 }
 
 /// How large the machine is.
@@ -149,6 +176,8 @@ pub struct Config {
     pub recursive: bool,
     /// Which generation list a page enters when it is read in.
     pub placement: Placement,
+    /// How many bytes a page stands for in amounts and texts. The machine itself counts in pages.
+    pub page_size: PageSize,
 }
 
 impl Config {

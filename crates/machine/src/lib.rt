@@ -14,6 +14,7 @@ pub mod entry;
 pub mod event;
 pub mod id;
 pub mod limit;
+pub mod page_size;
 pub mod print;
 pub mod record;
 pub mod refusal;

@@ -4,14 +4,16 @@ use Rattle.std.specs.Prelude.{option_map}
 use Rattle.std.specs.List.{AllByRecursion}
 use Rattle.std.proofs.lemmas.List.{get_or-set_same, get_or-set_other}
 use Rattle.std.proofs.lemmas.Bool.{and_parts, or_parts, or_from, leb-true, ltb-true, eq-eqb, eqb-true, ne_eqb}
+use Rattle.machine.specs.declared.config.Placement.{Placement}
+use Rattle.machine.specs.declared.config.Placement.TheVariants.{Own}
 use Rattle.machine.specs.declared.record.Kind.{Kind}
 use Rattle.machine.specs.declared.record.Kind.TheVariants.{Anon, File}
 use Rattle.machine.specs.Slots.{there_and}
 use Rattle.machine.specs.Pages.{Page, Pages, page_at, is_anon, is_held}
 use Rattle.machine.specs.Lists.{HeldLists, is_held_of, ListsHeld, AreGenerations}
-use Rattle.machine.specs.Step.{regrouped}
+use Rattle.machine.specs.Step.{heir, regrouped}
 use Rattle.machine.proofs.TreeLemmas.{eq_cases}
-use Rattle.machine.proofs.RemovedLemmas.{regrouped-test}
+use Rattle.page_lists.proofs.RegroupedLemmas.{held-framed, heir-framed, regrouped-test}
 use Rattle.machine.specs.Generations.{Listed, Row, Gens, new_gens, of_kind, row_of, has_page, is_listed, at_seq, taken_in, taken_over, emptied, handed_over, gens_at, with_gens, IsRising, AreDistinct, IsRow, IsGens}
 use Rattle.machine.proofs.Values.{unlike}
 use Rattle.page_lists.proofs.ListedLemmas.{each-append, each-filter, each-map, each-weaker, each-test, has_page-append, has-split, has-renumbered, has-filter, none-filter, or-behind, opposite-numbers, rising-filter, rising-append, distinct-filter, distinct-append, distinct-split, distinct-front, distinct-back, distinct-apart}
@@ -159,15 +161,25 @@ of_none true k = refl
 of_none false k = refl
 
 -- the pages of one group are another's, with their lists
-module _ (pages pages' : Pages) (held : HeldLists) (g parent : ℕ) (apart : parent ≢ g) (here : g < length held.groups) (there : parent < length held.groups) (were : ListsHeld pages held)
-    (changes : (p : ℕ) → page_at pages' p ≡ option_map (regrouped g parent) (page_at pages p)) where
+module _ (placement : Placement) (pages pages' : Pages) (held : HeldLists) (g parent : ℕ) (apart : parent ≢ g) (here : g < length held.groups) (there : parent < length held.groups) (were : ListsHeld pages held)
+    (changes : (p : ℕ) → page_at pages' p ≡ option_map (regrouped placement g parent) (page_at pages p)) where
   abbrev now : HeldLists
   now = record { groups = handed_over g parent held.groups; marks = held.marks; hits = held.hits }
 
   abbrev of_kind_page : Kind → Page → Bool
   of_kind_page kind page = of_kind kind (is_anon page.content) (not (is_anon page.content))
 
-  gone_page : (kind : Kind) (slot : Option Page) → there_and (is_held_of g kind) (option_map (regrouped g parent) slot) ≡ false
+  -- by either placement a held page becomes the parent's
+  held_alike : (h : ℕ) (kind : Kind) (slot : Option Page) → there_and (is_held_of h kind) (option_map (regrouped placement g parent) slot) ≡ there_and (is_held_of h kind) (option_map (regrouped Own g parent) slot)
+  held_alike h kind None = refl
+  held_alike h kind (Some page) = by_held (is_held page) refl
+    where
+      by_held : (b : Bool) → is_held page ≡ b
+          → (b && ((cond (page.group == g) (heir placement parent page.residence) page.group == h) && of_kind_page kind page)) ≡ (b && ((cond (page.group == g) parent page.group == h) && of_kind_page kind page))
+      by_held false is = refl
+      by_held true is = ap (λ (n : ℕ). (cond (page.group == g) n page.group == h) && of_kind_page kind page) (heir-framed placement parent page.residence (held-framed page.residence is))
+
+  gone_page : (kind : Kind) (slot : Option Page) → there_and (is_held_of g kind) (option_map (regrouped Own g parent) slot) ≡ false
   gone_page kind None = refl
   gone_page kind (Some page) = by_group (page.group == g) refl
     where
@@ -175,7 +187,7 @@ module _ (pages pages' : Pages) (held : HeldLists) (g parent : ℕ) (apart : par
       by_group true is = ap (λ b. is_held page && (b && of_kind_page kind page)) (ne_eqb parent g apart) ∙ of_none (is_held page) (of_kind_page kind page)
       by_group false is = ap (λ b. is_held page && (b && of_kind_page kind page)) is ∙ of_none (is_held page) (of_kind_page kind page)
 
-  taken_page : (kind : Kind) (slot : Option Page) → (there_and (is_held_of g kind) slot || there_and (is_held_of parent kind) slot) ≡ there_and (is_held_of parent kind) (option_map (regrouped g parent) slot)
+  taken_page : (kind : Kind) (slot : Option Page) → (there_and (is_held_of g kind) slot || there_and (is_held_of parent kind) slot) ≡ there_and (is_held_of parent kind) (option_map (regrouped Own g parent) slot)
   taken_page kind None = refl
   taken_page kind (Some page) = by_group (page.group == g) refl
     where
@@ -195,7 +207,7 @@ module _ (pages pages' : Pages) (held : HeldLists) (g parent : ℕ) (apart : par
           ap (λ b. (is_held page && (b && of_kind_page kind page)) || (is_held page && ((page.group == parent) && of_kind_page kind page))) is
           ∙ ap (λ b. b || (is_held page && ((page.group == parent) && of_kind_page kind page))) (of_none (is_held page) (of_kind_page kind page))
 
-  other_page : (h : ℕ) → h ≢ g → h ≢ parent → (kind : Kind) (slot : Option Page) → there_and (is_held_of h kind) slot ≡ there_and (is_held_of h kind) (option_map (regrouped g parent) slot)
+  other_page : (h : ℕ) → h ≢ g → h ≢ parent → (kind : Kind) (slot : Option Page) → there_and (is_held_of h kind) slot ≡ there_and (is_held_of h kind) (option_map (regrouped Own g parent) slot)
   other_page h other differs kind None = refl
   other_page h other differs kind (Some page) = by_group (page.group == g) refl
     where
@@ -213,16 +225,16 @@ module _ (pages pages' : Pages) (held : HeldLists) (g parent : ℕ) (apart : par
   row-emptied File from p = refl
 
   rows : (h : ℕ) (kind : Kind) (p : ℕ) → has_page p (row_of kind (gens_at now.groups h)).pages ≡ there_and (is_held_of h kind) (page_at pages' p)
-  rows h kind p = by_place (handed-at held.groups g parent here there apart h) ∙ sym (ap (there_and (is_held_of h kind)) (changes p))
+  rows h kind p = by_place (handed-at held.groups g parent here there apart h) ∙ sym (held_alike h kind (page_at pages p)) ∙ sym (ap (there_and (is_held_of h kind)) (changes p))
     where
-      by_place : At held.groups g parent h (gens_at now.groups h) → has_page p (row_of kind (gens_at now.groups h)).pages ≡ there_and (is_held_of h kind) (option_map (regrouped g parent) (page_at pages p))
+      by_place : At held.groups g parent h (gens_at now.groups h) → has_page p (row_of kind (gens_at now.groups h)).pages ≡ there_and (is_held_of h kind) (option_map (regrouped Own g parent) (page_at pages p))
       by_place (Gone same is) =
           ap (λ (x : Gens). has_page p (row_of kind x).pages) is ∙ row-emptied kind (gens_at held.groups g) p
-          ∙ sym (ap (λ (x : ℕ). there_and (is_held_of x kind) (option_map (regrouped g parent) (page_at pages p))) same ∙ gone_page kind (page_at pages p))
+          ∙ sym (ap (λ (x : ℕ). there_and (is_held_of x kind) (option_map (regrouped Own g parent) (page_at pages p))) same ∙ gone_page kind (page_at pages p))
       by_place (Takes same is) =
           ap (λ (x : Gens). has_page p (row_of kind x).pages) is ∙ row-taken_over kind (gens_at held.groups g) (gens_at held.groups parent) p
           ∙ ap (λ b. b || has_page p (row_of kind (gens_at held.groups parent)).pages) (were.rows g kind p) ∙ ap (λ b. there_and (is_held_of g kind) (page_at pages p) || b) (were.rows parent kind p)
-          ∙ taken_page kind (page_at pages p) ∙ sym (ap (λ (x : ℕ). there_and (is_held_of x kind) (option_map (regrouped g parent) (page_at pages p))) same)
+          ∙ taken_page kind (page_at pages p) ∙ sym (ap (λ (x : ℕ). there_and (is_held_of x kind) (option_map (regrouped Own g parent) (page_at pages p))) same)
       by_place (Stays other differs is) = ap (λ (x : Gens). has_page p (row_of kind x).pages) is ∙ were.rows h kind p ∙ other_page h other differs kind (page_at pages p)
 
   -- each held page stands on the lists of its group still
@@ -230,7 +242,7 @@ module _ (pages pages' : Pages) (held : HeldLists) (g parent : ℕ) (apart : par
   held-handed = record { rows = rows; marked = λ p is. as_held p ∙ were.marked p is; counted = λ p gone. were.counted p (sym (as_held p) ∙ gone) }
     where
       as_held : (p : ℕ) → there_and is_held (page_at pages' p) ≡ there_and is_held (page_at pages p)
-      as_held p = ap (there_and is_held) (changes p) ∙ regrouped-test is_held g parent (λ page. refl) (page_at pages p)
+      as_held p = ap (there_and is_held) (changes p) ∙ regrouped-test is_held placement g parent (λ page. refl) (page_at pages p)
 
   -- a page on a group's lists is of the group
   listed-of : (h q : ℕ) → is_listed (gens_at held.groups h) q ≡ true → there_and (λ (page : Page). page.group == h) (page_at pages q) ≡ true

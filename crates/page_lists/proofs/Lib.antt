@@ -8,3 +8,4 @@ pub mod PicksLemmas
 pub mod CursorLemmas
 pub mod TakeableLemmas
 pub mod GiverLemmas
+pub mod RegroupedLemmas

@@ -9,7 +9,7 @@ use Rattle.files.specs.Files.{FilesOf}
 use Rattle.pages.specs.declared.source.Source.{Source}
 use Rattle.pages.specs.declared.source.Source.TheVariants as source
 use Rattle.pages.specs.Transfers.{ReadsFrom}
-use Rattle.pages.specs.PagesOf.{Label, labelled}
+use Rattle.pages.specs.PagesOf.{Label, labelled, memory_of}
 use Rattle.page_state.specs.declared.joined.State.TheInside.{Inside}
 use Rattle.page_state.specs.declared.parts.Parts.{Parts}
 use Rattle.page_state.specs.Owned.{PartsAgree}
@@ -42,7 +42,8 @@ module _ (s : Inside) (is : IsJoined s) (now : Parts) (agree : PartsAgree now) (
   joined-read from g p label frame block n reads placed = joined-pages s is now s.cursors s.spaces agree stays (by_source from reads) refl refl is.homes refl
     where
       by_source : (x : Source) → ReadsFrom s.parts.pages.pages s.parts.pages.numbers s.parts.pages.files x g p label block → AreMapped now.pages.pages s.spaces.page_tables
-      by_source (source.Swapped page) reads = mapped-begun s.parts.pages.pages s.spaces.page_tables is.mapped now.pages.pages p (labelled label (Away block)) (labelled label (Coming frame block n)) reads.2 placed refl refl
+      by_source (source.Swapped page) reads = mapped-begun s.parts.pages.pages s.spaces.page_tables is.mapped now.pages.pages p (labelled (memory_of reads.2) (Away block)) (labelled label (Coming frame block n)) reads.3 placed refl
+          (ap (λ (l : Label). l.content) reads.1)
       by_source (source.File at) reads = mapped-new s.parts.pages.pages s.spaces.page_tables is.mapped now.pages.pages p _ reads.3 placed refl
 
   -- ---- written

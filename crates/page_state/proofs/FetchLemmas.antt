@@ -24,6 +24,6 @@ pub record IsFetched (slot : Option Page) (label : Label) (block g : ℕ) : Type
 
 pub fetched : (pages : Pages) (numbers : ℕ) (files : FilesOf) (from : Source) (g p : ℕ) (label : Label) (block : ℕ) → ReadsFrom pages numbers files from g p label block → IsFetched (page_at pages p) label block g
 fetched pages numbers files (source.Swapped page) g p label block reads =
-    rw (reads.2, reads.1) (record { group = refl; held = refl; moving = refl; going = refl; framed = refl; frame = λ f. refl; charged = λ tree a. refl; blocks = λ f n b. refl; swap = λ f n. refl })
+    rw (reads.3, reads.1) (record { group = refl; held = refl; moving = refl; going = refl; framed = refl; frame = λ f. refl; charged = λ tree a. refl; blocks = λ f n b. refl; swap = λ f n. refl })
 fetched pages numbers files (source.File at) g p label block reads =
     rw (reads.3, reads.1) (record { group = refl; held = refl; moving = refl; going = refl; framed = refl; frame = λ f. refl; charged = λ tree a. refl; blocks = λ f n b. refl; swap = λ f n. refl })

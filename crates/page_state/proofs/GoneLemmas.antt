@@ -1,12 +1,11 @@
 -- A group goes, in all joined parts.
 use Rattle.std.proofs.Common.{◌≡◌, ◌≢◌, ℕ, suc, ◌==◌, ◌&&◌, ◌||◌, not, Bool, true, false, List, [], ◌∷◌, length, length-set, Option, Some, None, eq-eqb, refl, sym, ap, ◌∙◌, subst, arith}
 use Rattle.std.specs.Prelude.{slice_set, option_map}
+use Rattle.machine.specs.declared.config.Placement.{Placement}
 use Rattle.machine.specs.declared.refusal.Refusal.TheVariants.{NoEntry, Busy}
-use Rattle.machine.specs.Slots.{there_and}
 use Rattle.machine.specs.Tree.{Node, node_at, is_live, is_parent, is_child, has_children, under_at, without_group}
-use Rattle.machine.specs.Pages.{Page, page_at}
-use Rattle.machine.specs.declared.record.Task.{Task}
-use Rattle.machine.specs.Tasks.{Tasks, task_at, lives, is_live_task, is_live_in, has_tasks, group_of, group_of_task}
+use Rattle.machine.specs.Pages.{Page, page_at, is_anon}
+use Rattle.machine.specs.Tasks.{has_tasks, group_of_task}
 use Rattle.machine.specs.declared.record.EventCounts.{EventCounts}
 use Rattle.machine.specs.Refusals.{first_cause, rmdir_refusal}
 use Rattle.machine.specs.State.{State}
@@ -17,7 +16,7 @@ use Rattle.machine.specs.Lists.{Order}
 use Rattle.machine.proofs.Values.{unlike}
 use Rattle.machine.proofs.TreeLemmas.{under_at-None, under_at-step}
 use Rattle.machine.proofs.RemovedLemmas.{without-other}
-use Rattle.machine.proofs.TestLemmas.{none_has}
+use Rattle.page_lists.proofs.RegroupedLemmas.{elsewhere, regrouped-test}
 use Rattle.machine.proofs.RemovedLemmas.{no_child}
 use Rattle.group_tree.specs.Kin.{AreKin}
 use Rattle.group_tree.specs.Lineages.{IsLineage}
@@ -79,28 +78,16 @@ kin-childless kin tree g are none =
 
 -- ---- what is joined
 
--- no live task is of a group without tasks
-elsewhere : (tasks : Tasks) (g t : ℕ) → has_tasks tasks g ≡ false → lives tasks t ≡ true → group_of_task tasks t ≢ g
-elsewhere tasks g t none alive same = by_task (task_at tasks t) alive same (none_has (is_live_in g) tasks none t)
-  where
-    by_task : (slot : Option Task) → there_and is_live_task slot ≡ true → group_of slot ≡ g → there_and (is_live_in g) slot ≡ false → ⊥
-    by_task None h e empty = absurd (let wrong : false ≡ true = h in cc)
-    by_task (Some task) h e empty = unlike (is_live_task task && (task.group.0 == g)) (ap (λ (b : Bool). b && (task.group.0 == g)) h ∙ eq-eqb task.group.0 g e) empty
+settled_same : (placement : Placement) (g parent : ℕ) (slot : Option Page) → is_settled (option_map (regrouped placement g parent) slot) ≡ is_settled slot
+settled_same placement g parent None = refl
+settled_same placement g parent (Some page) = refl
 
-settled_same : (g parent : ℕ) (slot : Option Page) → is_settled (option_map (regrouped g parent) slot) ≡ is_settled slot
-settled_same g parent None = refl
-settled_same g parent (Some page) = refl
-
-cached_same : (g parent : ℕ) (slot : Option Page) → is_cached (option_map (regrouped g parent) slot) ≡ is_cached slot
-cached_same g parent None = refl
-cached_same g parent (Some page) = refl
-
-none_was : (g parent : ℕ) (slot : Option Page) → option_map (regrouped g parent) slot ≡ None → slot ≡ None
-none_was g parent None e = refl
-none_was g parent (Some page) e = let wrong : Some (regrouped g parent page) ≡ None = e in cc
+none_was : (placement : Placement) (g parent : ℕ) (slot : Option Page) → option_map (regrouped placement g parent) slot ≡ None → slot ≡ None
+none_was placement g parent None e = refl
+none_was placement g parent (Some page) e = let wrong : Some (regrouped placement g parent page) ≡ None = e in cc
 
 module _ (s : Inside) (is : IsJoined s) (g parent : ℕ) (may : MayGo (joined_of s).tables g) (pages : PagesOf) (counters : Counts) (held : HeldOf) (agree : PartsAgree (record (s.parts) { pages = pages; counters = counters; held = held }))
-    (handed : (p : ℕ) → page_at pages.pages p ≡ option_map (regrouped g parent) (page_at s.parts.pages.pages p)) (others : pages ≡ record (s.parts.pages) { pages = pages.pages; bytes = pages.bytes }) (kin : counters.tree ≡ without_group s.parts.counters.tree g)
+    (handed : (p : ℕ) → page_at pages.pages p ≡ option_map (regrouped s.config.placement g parent) (page_at s.parts.pages.pages p)) (others : pages ≡ record (s.parts.pages) { pages = pages.pages; bytes = pages.bytes }) (kin : counters.tree ≡ without_group s.parts.counters.tree g)
     (cursors : CursorsOf) (served : cursors.cursors ≡ slice_set s.cursors.cursors g no_cursor) (events : EventTable) (counted : events.tree ≡ without_group s.events.tree g) (tree : List Node) (fewer : tree ≡ without_group s.tree g) where
   abbrev after : Inside
   after = record s { tree = tree; parts = record (s.parts) { pages = pages; counters = counters; held = held }; cursors = cursors; events = events }
@@ -120,9 +107,9 @@ module _ (s : Inside) (is : IsJoined s) (g parent : ℕ) (may : MayGo (joined_of
         mapped = mapped-fits pages.pages s.spaces.page_tables
             (λ p.
             record {
-              none = λ gone. is.mapped.there p (none_was g parent (page_at s.parts.pages.pages p) (sym (handed p) ∙ gone));
-              least = (let least = is.mapped.least p in let same = ap is_settled (handed p) ∙ settled_same g parent (page_at s.parts.pages.pages p) in omega (arith, least, same));
-              cached = λ e. file_unmapped s.parts.pages.pages s.spaces.page_tables is.mapped p (sym (ap is_cached (handed p) ∙ cached_same g parent (page_at s.parts.pages.pages p)) ∙ e);
+              none = λ gone. is.mapped.there p (none_was s.config.placement g parent (page_at s.parts.pages.pages p) (sym (handed p) ∙ gone));
+              least = (let least = is.mapped.least p in let same = ap is_settled (handed p) ∙ settled_same s.config.placement g parent (page_at s.parts.pages.pages p) in omega (arith, least, same));
+              cached = λ e. file_unmapped s.parts.pages.pages s.spaces.page_tables is.mapped p (sym (ap is_cached (handed p) ∙ regrouped-test (λ page. not (is_anon page.content)) s.config.placement g parent (λ page. refl) (page_at s.parts.pages.pages p)) ∙ e);
             });
         homes = λ t alive. ap (λ (ns : List Node). is_live ns (group_of_task s.spaces.tasks t)) fewer
             ∙ ap (λ (n : Node). n.live) (without-other s.tree g (group_of_task s.spaces.tasks t) (elsewhere s.spaces.tasks g t may.taskless alive)) ∙ is.homes t alive;

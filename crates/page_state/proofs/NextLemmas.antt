@@ -348,6 +348,30 @@ module _ (s : Inside) (is : IsJoined s) where
         by_slot None e = e
         by_slot (Some page) e = (and_parts (is_takeable tables target page) _ e).0
 
+    -- in the pass that serves a group, the one by the lists is the one by the table
+    module _ (groups : IsGroupTree s.tree) (live : is_live s.tree target ≡ true) (heeds parts : Bool) (last : Cursor) (low_reclaim : Bool) (which : low_reclaim ≡ not (has_open tables target)) where
+      -- each group that is asked gives a page by the table where it does by the lists
+      gives-listed : All (λ g. gives tables target g ≡ listed low_reclaim g) (asking_order parts s.tree target last)
+      gives-listed =
+          λ k d lt.
+          let here = asked-order s.tree target parts last groups live k d lt in
+          ap (λ low. gives_in low (get_or (asking_order parts s.tree target last) k d)) (sym which) ∙ listed-same low_reclaim (get_or (asking_order parts s.tree target last) k d) here.0 here.1
+
+      pub served-listed : served_first heeds parts s.tree (gives_old tables s.parts.held.lists target) (gives tables target) target last ≡ served_first heeds parts s.tree (listed_old low_reclaim) (listed low_reclaim) target last
+      served-listed = by_age heeds
+        where
+          by_turns : served_by parts s.tree (gives tables target) target last ≡ served_by parts s.tree (listed low_reclaim) target last
+          by_turns = find_agree (gives tables target) (listed low_reclaim) (asking_order parts s.tree target last) gives-listed
+
+          old_first : served_by parts s.tree (gives_old tables s.parts.held.lists target) target last ≡ served_by parts s.tree (listed_old low_reclaim) target last
+          old_first =
+              find_agree (gives_old tables s.parts.held.lists target) (listed_old low_reclaim) (asking_order parts s.tree target last)
+              (λ k d lt. ap (λ b. b && has_old_file (seen_of s.parts.held.lists (get_or (asking_order parts s.tree target last) k d))) (gives-listed k d lt))
+
+          by_age : (b : Bool) → served_first b parts s.tree (gives_old tables s.parts.held.lists target) (gives tables target) target last ≡ served_first b parts s.tree (listed_old low_reclaim) (listed low_reclaim) target last
+          by_age false = by_turns
+          by_age true = option_or-agree old_first by_turns
+
     -- what the pass says of the group that it finds
     pub record Found (heeds parts : Bool) (last : Cursor) (found : Served) : Type 0 where
       pub turn : served_first heeds parts s.tree (listed_old found.low_reclaim) (listed found.low_reclaim) target last ≡ Some found.group.0
@@ -365,28 +389,9 @@ module _ (s : Inside) (is : IsJoined s) where
           by_pass true spared given is = ap not (sym (sym first_pass ∙ none_taken false (spared refl)))
           by_pass false spared given is = ap not (sym (sym first_pass ∙ ap (λ low. any_there (passes_in low) s.parts.pages.pages) (sym is) ∙ given is))
 
-      -- each group that is asked gives a page by the table where it does by the lists
-      gives-listed : All (λ g. gives tables target g ≡ listed found.low_reclaim g) (asking_order parts s.tree target last)
-      gives-listed =
-          λ k d lt.
-          let here = asked-order s.tree target parts last groups live k d lt in
-          ap (λ low. gives_in low (get_or (asking_order parts s.tree target last) k d)) (sym passes-low) ∙ listed-same found.low_reclaim (get_or (asking_order parts s.tree target last) k d) here.0 here.1
-
       -- and the group is the one that the table tells
       pub turn-is : served_first heeds parts s.tree (gives_old tables s.parts.held.lists target) (gives tables target) target last ≡ Some found.group.0
-      turn-is = by_age heeds ∙ is_found.turn
-        where
-          by_turns : served_by parts s.tree (gives tables target) target last ≡ served_by parts s.tree (listed found.low_reclaim) target last
-          by_turns = find_agree (gives tables target) (listed found.low_reclaim) (asking_order parts s.tree target last) gives-listed
-
-          old_first : served_by parts s.tree (gives_old tables s.parts.held.lists target) target last ≡ served_by parts s.tree (listed_old found.low_reclaim) target last
-          old_first =
-              find_agree (gives_old tables s.parts.held.lists target) (listed_old found.low_reclaim) (asking_order parts s.tree target last)
-              (λ k d lt. ap (λ b. b && has_old_file (seen_of s.parts.held.lists (get_or (asking_order parts s.tree target last) k d))) (gives-listed k d lt))
-
-          by_age : (b : Bool) → served_first b parts s.tree (gives_old tables s.parts.held.lists target) (gives tables target) target last ≡ served_first b parts s.tree (listed_old found.low_reclaim) (listed found.low_reclaim) target last
-          by_age false = by_turns
-          by_age true = option_or-agree old_first by_turns
+      turn-is = served-listed groups live heeds parts last found.low_reclaim passes-low ∙ is_found.turn
 
       pub one-is : has_takeable tables target ≡ true
       one-is = takeable-passes found.low_reclaim (one_taken found.low_reclaim found.group.0 is_found.live is_found.below is_found.given)

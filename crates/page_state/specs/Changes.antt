@@ -243,11 +243,11 @@ pub record AddsGroup (old new : StateOf) (path : List ℕ) : Type 0 where
   pub bytes : new.bytes ≡ old.bytes
   pub flights : new.flights ≡ old.flights
 
--- a group goes, and its pages, in transfer and on their blocks too, are its parent's
+-- a group goes, and its pages, in transfer and on their blocks too, are its parent's, or by Linux's placement on their blocks alone the root's
 pub record RemovesGroup (old new : StateOf) (g : ℕ) : Type 0 where
   pub parent : ℕ
   pub below : (node_at old.tables.tree g).parent ≡ Some parent
-  pub pages : (p : ℕ) → page_at new.tables.pages p ≡ option_map (regrouped g parent) (page_at old.tables.pages p)
+  pub pages : (p : ℕ) → page_at new.tables.pages p ≡ option_map (regrouped old.tables.opening.placement g parent) (page_at old.tables.pages p)
   pub tables : new.tables ≡ record old.tables { tree = without_group old.tables.tree g; pages = new.tables.pages }
   pub order : RemovesLists (Some parent) g old.order new.order
   pub bytes : (p k : ℕ) → byte_in new.bytes p k ≡ byte_in old.bytes p k

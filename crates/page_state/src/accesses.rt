@@ -99,16 +99,16 @@ impl State {
         );
     }
 
-    /// Begins to read in what the source names, charged to the group, which has room for it. The source is memory of
-    /// that group on its slot, or a page of a file that no page holds, on its home block (kernel: do_swap_page,
-    /// filemap_add_folio). `AllocError` if memory runs out, and then nothing changes.
+    /// Begins to read in what the source names, charged to the group, which has room for it. The source is memory on
+    /// its slot, which becomes a page of the group, or a page of a file that no page holds, on its home block (kernel:
+    /// do_swap_page, filemap_add_folio). `AllocError` if memory runs out, and then nothing changes.
     pub fn start_in(
         &mut self,
         alloc: Global,
         from: Source,
         group: GroupId,
     ) -> Result<InTicket, AllocError>
-        requires readable { IsReadable self.old.tables.pages (files_of self.old.tables.opening) from group.0 }
+        requires readable { IsReadable self.old.tables.pages (files_of self.old.tables.opening) from }
         requires live { is_live self.old.tables.tree group.0 ≡ true }
         requires room { HasRoom self.old.tables group.0 }
         ensures begins { IfOk result (λ ticket. BeginsRead self.old self.new from group.0 ticket) }

@@ -144,7 +144,8 @@ impl State {
 
     /// Removes a group that has neither children nor tasks and is not the root. Its pages, including those in
     /// transfer and those on their blocks, become its parent's, and so do their charges (kernel: `cgroup_rmdir`,
-    /// `mem_cgroup_css_offline`). Allocates no memory.
+    /// `mem_cgroup_css_offline`). By Linux's placement those that are only on their blocks become the root's. Allocates
+    /// no memory.
     pub fn rmdir(&mut self, group: GroupId)
         requires { rmdir_refusal self.old.tables group.0 ≡ None }
         ensures { RemovesGroup self.old self.new group.0 }
@@ -159,6 +160,7 @@ impl State {
             &mut self.parts.counters,
             group,
             parent,
+            self.config.placement,
         );
         self.parts.held.take_over(group, parent);
         self.parts.counters.remove(group);

@@ -15,6 +15,7 @@ use crate::parts::Parts;
 use files::Files;
 use group_tree::{Flags, Tree};
 use machine::config::{Config, Placement, Watermarks};
+use machine::page_size::PageSize;
 use memory_events::Events;
 use pages::Pages;
 use reclaim::Cursors;
@@ -138,6 +139,13 @@ impl State {
         ensures { result ≡ self.now.tables.opening.placement }
     {
         self.config.placement
+    }
+
+    /// How many bytes a page stands for in amounts and texts.
+    pub fn page_size(&self) -> PageSize
+        ensures { result.bytes ≡ self.now.tables.opening.page_size }
+    {
+        self.config.page_size
     }
 
     /// The limit of the trace, in entries.

@@ -24,11 +24,11 @@ use Rattle.files.specs.Files.{FilesOf}
 use Rattle.pages.specs.PagesOf.{Label, label_of, labelled, moving, flight, byte_of, byte_in, HasResidence, AreInFlight}
 use Rattle.pages.specs.Tickets.{new_ticket}
 use Rattle.pages.specs.Transfers.{Starts, Ends, on_block_as, page_after, IsFreed, LeavesBy, block_for}
-use Rattle.rings.specs.Rings.{RingsOf, list_at, without}
+use Rattle.rings.specs.Rings.{RingsOf, list_at, is_listed, without}
 use Rattle.pages.specs.Records.{page_of, bytes_of, content_of, is_dirty, label_holding, file_at, place_in, is_of, AreMembers, AreCached, AreHome, AreFramed, view_of, ArePages}
-use Rattle.pages.proofs.TableLemmas.{at-map, is_some-map, map-set, place_within, Changes-map, Changes-set, taken-changes, free-page}
+use Rattle.pages.proofs.TableLemmas.{at-map, is_some-map, map-set, place_within, Changes-map, Changes-twice, Changes-set, taken-changes, free-page}
 use Rattle.pages.proofs.FlightLemmas.{under, under-moving, IsSettled, IsSettled-is, AreInFlight-begun, AreInFlight-ended}
-use Rattle.pages.proofs.MemberLemmas.{AreMembers-kept, AreMembers-gone, AreMembers-added}
+use Rattle.pages.proofs.MemberLemmas.{AreMembers-kept, AreMembers-gone, AreMembers-added, unlisted}
 use Rattle.pages.proofs.CacheLemmas.{AreHome-changes, AreCached-kept, AreCached-left, left-inside, filed-after}
 use Rattle.pages.proofs.FrameLemmas.{frames_page, AreFramed-kept, AreFramed-comes}
 
@@ -220,6 +220,27 @@ Fits-added numbers numbers' old new places flights members members' files cache 
   cached = cached;
   homes = homes;
 }
+
+-- a page that was taken off its list is on none
+pub off_lists : (old between : List (Option OwnedPage)) (lists after : List (List ℕ)) (p : ℕ) → Changes old between p None → AreMembers lists (pages_of old) → after ≡ map (without p) lists → is_listed after p ≡ false
+off_lists old between lists after p gone are off =
+    let none = Changes-map page_of old between p None gone in
+    unlisted after (pages_of between) (subst (λ ls. AreMembers ls (pages_of between)) (sym off) (AreMembers-gone lists (pages_of old) (pages_of between) p None none are refl)) p none.changed
+
+-- a page goes from its group's list to the end of one
+pub Fits-moved : {T : Type 0} (numbers : Slab T) (old between new : List (Option OwnedPage)) (places : ℕ) (flights : Slab Flight) (members removed members' : RingsOf) (files : FilesOf) (cache : List (Option PageId))
+    → ArePages numbers old places flights members files cache → (p : ℕ) (from to : OwnedPage) → at old p ≡ Some from → Changes old between p None → Changes between new p (Some to) → (page_of to).content ≡ (page_of from).content
+    → removed ≡ record members { lists = map (without p) members.lists } → (h : ℕ) → h < length members.lists → (page_of to).group ≡ h
+    → members' ≡ record removed { lists = set removed.lists h (list_at removed.lists h ++ p ∷ []) } → Fits numbers numbers new members members' files cache cache
+Fits-moved numbers old between new places flights members removed members' files cache are p from to was gone placed content off h within group on =
+    let unlisted : removed.lists ≡ map (without p) members.lists = ap (λ m. m.lists) off in
+    let same : length removed.lists ≡ length members.lists = ap length unlisted ∙ length-map members.lists (without p) in
+    let none = Changes-map page_of old between p None gone in
+    let left : AreMembers removed.lists (pages_of between) = subst (λ ls. AreMembers ls (pages_of between)) (sym unlisted) (AreMembers-gone members.lists (pages_of old) (pages_of between) p None none are.listed refl) in
+    Fits-stays-beside numbers old new places flights members files cache are p from was to (Changes-twice old between new p None (Some to) gone placed) content members'
+    (ap (λ m. m.numbers) on ∙ ap (λ m. m.numbers) off) (ap (λ m. length m.lists) on ∙ length-set removed.lists h (list_at removed.lists h ++ p ∷ []) ∙ same) (ap (λ m. m.room) on ∙ ap (λ m. m.room) off)
+    (subst (λ ls. AreMembers ls (pages_of new)) (sym (ap (λ m. m.lists) on))
+    (AreMembers-added removed.lists (pages_of between) (pages_of new) p (Some (page_of to)) (Changes-map page_of between new p (Some to) placed) left h (omega (arith, within, same)) none.changed (λ g. ap (λ x. x == g) group)))
 
 -- ---- how a transfer ends
 

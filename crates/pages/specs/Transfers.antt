@@ -33,16 +33,16 @@ pub record StartsIn (old new : PagesOf) (p : ℕ) (label : Label) (frame block :
   pub starts : Starts old new p label In frame block ticket
   pub bytes : (q o : ℕ) → q ≢ p → byte_in new.bytes q o ≡ byte_in old.bytes q o
 
--- what is read in, charged to g: memory of that group on its slot; or a page of a file, from its home block, under a number that no page has
+-- what is read in, charged to g: memory of a group on its slot, which becomes a page of g; or a page of a file, from its home block, under a number that no page has
 abbrev pub ReadsFrom : Pages → ℕ → FilesOf → Source → ℕ → ℕ → Label → ℕ → Type 0
-ReadsFrom pages numbers files (source.Swapped page) g p label block = (page.0 ≡ p) × (label ≡ memory_of g) × HasResidence pages p label (Away block)
+ReadsFrom pages numbers files (source.Swapped page) g p label block = (page.0 ≡ p) × (label ≡ memory_of g) × (h : ℕ) × HasResidence pages p (memory_of h) (Away block)
 ReadsFrom pages numbers files (source.File at) g p label block =
     (p < numbers) × (label ≡ of_file at.file at.page g false) × (block ≡ home_block files.first files.sizes at.file at.page) × (page_at pages p ≡ None)
 
 -- it can be: the page is there; or the file has it, and no page holds it
-abbrev pub IsReadable : Pages → FilesOf → Source → ℕ → Type 0
-IsReadable pages files (source.Swapped page) g = (block : ℕ) × HasResidence pages page.0 (memory_of g) (Away block)
-IsReadable pages files (source.File at) g = (at.page < slice_index files.sizes at.file) × (file_page pages at.file at.page ≡ None)
+abbrev pub IsReadable : Pages → FilesOf → Source → Type 0
+IsReadable pages files (source.Swapped page) = (h block : ℕ) × HasResidence pages page.0 (memory_of h) (Away block)
+IsReadable pages files (source.File at) = (at.page < slice_index files.sizes at.file) × (file_page pages at.file at.page ≡ None)
 
 -- what is read in comes to be a page
 abbrev pub is_new : Source → Bool

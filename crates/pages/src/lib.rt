@@ -17,7 +17,7 @@ ghost use Rattle.page_counter.specs.Counts.{IsOut, MovesUp, SameGroups};
 ghost use Rattle.machine.specs.Access.{page_size};
 ghost use Rattle.machine.specs.declared.event.Op.TheVariants.{Write};
 ghost use Rattle.machine.specs.Lists.{kind_at};
-ghost use Rattle.machine.specs.Step.{new_page, touched};
+ghost use Rattle.machine.specs.Step.{new_page, heir, touched};
 ghost use Rattle.pages.specs.PagesOf.{is_held_frame, frame_holder, pages_there, byte_in, Label, memory_of, of_file, HasResidence, residence_of, moving, is_moving_in, is_flight_to, IsInTransfer, AreInFlight, AreFiled, way_of};
 ghost use Rattle.pages.specs.Transfers.{StartsIn, IsReadable, is_new, StartsFrom, LeavesBy, block_for, StartsOut, Ends, IsFreed};
 ghost use Rattle.machine.specs.declared.record.Direction.{Direction};
@@ -44,6 +44,7 @@ mod way;
 use block_store::Slot;
 use files::Files;
 use frames::{FRAME_BYTES, Frame, Spare};
+use machine::config::Placement;
 use machine::id::{GroupId, PageId, TicketId};
 use machine::record::{Direction, Kind};
 use page_counter::{Charge, Counters};
@@ -343,9 +344,9 @@ impl Pages {
         write_at(&mut self.owned[page.0 as usize], offset, byte);
     }
 
-    /// Begins to read what the source names from its block into the frame. Memory is read from its slot. A page of a
-    /// file is read from its home block, under a page number that is free for it. The owner of the ticket reads the
-    /// block. Allocates no memory: the buffer is the caller's.
+    /// Begins to read what the source names from its block into the frame. Memory is read from its slot, and becomes a
+    /// page of the group that is charged. A page of a file is read from its home block, under a page number that is free
+    /// for it. The owner of the ticket reads the block. Allocates no memory: the buffer is the caller's.
     pub fn start_in(
         &mut self,
         from: Source,
@@ -353,7 +354,7 @@ impl Pages {
         charge: Charge,
         buffer: Box<[u8; FRAME_BYTES]>,
     ) -> (PageId, InTicket)
-        requires readable { IsReadable self.old.pages self.old.files from charge }
+        requires readable { IsReadable self.old.pages self.old.files from }
         requires room { is_new from ≡ true → pages_there self.old.pages < self.old.numbers }
         requires group { charge < self.old.groups }
         requires unused { is_frame_taken self.old.pages frame.number ≡ false }
@@ -374,13 +375,15 @@ impl Pages {
         charge: Charge,
         buffer: Box<[u8; FRAME_BYTES]>,
     ) -> InTicket
-        requires away { (block : ℕ) × HasResidence self.old.pages page.0 (memory_of charge) (Away block) }
+        requires away { (g block : ℕ) × HasResidence self.old.pages page.0 (memory_of g) (Away block) }
+        requires group { charge < self.old.groups }
         requires room { 0 < self.old.tickets }
         requires unused { is_frame_taken self.old.pages frame.number ≡ false }
         requires framed { frame.number < self.old.frames }
-        ensures { (block : ℕ) → HasResidence self.old.pages page.0 (memory_of charge) (Away block) → StartsIn self.old self.new page.0 (memory_of charge) frame.number block result }
+        ensures { (g block : ℕ) → HasResidence self.old.pages page.0 (memory_of g) (Away block) → StartsIn self.old self.new page.0 (memory_of charge) frame.number block result }
     {
         note(&mut self.by_frame, frame.number(), page);
+        let group = charge.group();
         let slot = into_away(take_at(&mut self.owned, page));
         let block = slot.block();
         let (ticket, coming) = begin(
@@ -393,6 +396,8 @@ impl Pages {
             Backing::Swap(slot),
         );
         place(&mut self.owned, page, coming);
+        self.members.remove(page);
+        self.members.push_back(ListId(group.0), page);
         InTicket::new(ticket, block, buffer)
     }
 
@@ -510,12 +515,19 @@ impl Pages {
         }
     }
 
-    /// Moves the page, and its charge if it has one, to the parent of its group (kernel: a removed memory cgroup's
-    /// charges become its parent's). Allocates no memory.
-    pub fn reparent(&mut self, counters: &mut Counters, page: PageId, parent: GroupId)
+    /// Moves the page of a group that is removed, and its charge if it has one, to the parent of the group (kernel: a
+    /// removed memory cgroup's charges become its parent's). By Linux's placement a page that is only on its block moves
+    /// to the root. Allocates no memory.
+    pub fn reparent(
+        &mut self,
+        counters: &mut Counters,
+        page: PageId,
+        parent: GroupId,
+        placement: Placement,
+    )
         requires there { (x : Page) × (page_at self.old.pages page.0 ≡ Some x) × ((node_at counters.old.tree x.group).parent ≡ Some parent.0) × (has_frame x ≡ true → IsOut counters.old x.group) }
         requires parent { parent.0 < self.old.groups }
-        ensures moved { (x : Page) → page_at self.old.pages page.0 ≡ Some x → Changes self.old.pages self.new.pages page.0 (Some (record x { group = parent.0 })) }
+        ensures moved { (x : Page) → page_at self.old.pages page.0 ≡ Some x → Changes self.old.pages self.new.pages page.0 (Some (record x { group = heir placement parent.0 x.residence })) }
         ensures charged { (x : Page) → page_at self.old.pages page.0 ≡ Some x → has_frame x ≡ true → MovesUp counters.old counters.new x.group }
         ensures uncharged { (x : Page) → page_at self.old.pages page.0 ≡ Some x → has_frame x ≡ false → counters.new ≡ counters.old }
         ensures groups { SameGroups counters.old counters.new }
@@ -523,10 +535,11 @@ impl Pages {
         ensures others { self.new ≡ record self.old { pages = self.new.pages; bytes = self.new.bytes } }
     {
         let owned = take_at(&mut self.owned, page);
-        let moved = regrouped(owned, parent, counters);
+        let moved = regrouped(owned, parent, placement, counters);
+        let group = group_of(&moved);
         place(&mut self.owned, page, moved);
         self.members.remove(page);
-        self.members.push_back(ListId(parent.0), page);
+        self.members.push_back(ListId(group.0), page);
     }
 
     /// Removes the page and returns what it owned, which the caller must give back. The page is not in transfer.

@@ -17,7 +17,7 @@ ghost use Rattle.pages.specs.declared.owned_page.Content.{Content as Content_of}
 ghost use Rattle.pages.specs.Backed.{is_backing_of, is_backed};
 ghost use Rattle.pages.specs.Records.{page_of, bytes_of, bytes_at, content_of, is_dirty, label_holding, group_at, residence_at, block_of, file_at, place_in, WritesByte};
 ghost use Rattle.machine.specs.Lists.{kind_at};
-ghost use Rattle.machine.specs.Step.{touched};
+ghost use Rattle.machine.specs.Step.{heir, touched};
 ghost use Rattle.machine.specs.declared.event.Op.TheVariants.{Write};
 ghost use Rattle.pages.specs.declared.owned_page.FilePage.{FilePage as FilePage_of};
 
@@ -29,6 +29,7 @@ use crate::way::WayOut;
 use block_store::Slot;
 use files::Files;
 use frames::{FRAME_BYTES, Frame};
+use machine::config::Placement;
 use machine::id::{FrameId, GroupId, PageId, TicketId};
 use machine::record::{Direction, Kind};
 use page_counter::{Charge, Counters};
@@ -348,26 +349,32 @@ pub(crate) fn into_away(owned: OwnedPage) -> Slot
     }
 }
 
-/// What the page owns after it moves to the parent of its group: its charge, if it has one, is the parent's.
-pub(crate) fn regrouped(owned: OwnedPage, parent: GroupId, counters: &mut Counters) -> OwnedPage
+/// What the page owns after the removal of its group, which is below the parent: its charge, if it has one, is the
+/// parent's.
+pub(crate) fn regrouped(
+    owned: OwnedPage,
+    parent: GroupId,
+    placement: Placement,
+    counters: &mut Counters,
+) -> OwnedPage
     requires below { (node_at counters.old.tree (page_of owned).group).parent ≡ Some parent.0 }
     requires out { has_frame (page_of owned) ≡ true → IsOut counters.old (page_of owned).group }
-    ensures page { page_of result ≡ record (page_of owned) { group = parent.0 } }
+    ensures page { page_of result ≡ record (page_of owned) { group = heir placement parent.0 (page_of owned).residence } }
     ensures bytes { bytes_of result ≡ bytes_of owned }
     ensures charged { has_frame (page_of owned) ≡ true → MovesUp counters.old counters.new (page_of owned).group }
     ensures uncharged { has_frame (page_of owned) ≡ false → counters.new ≡ counters.old }
     ensures groups { SameGroups counters.old counters.new }
 {
     let OwnedPage { content, place } = owned;
-    let place = moved_up(place, parent, counters);
+    let place = moved_up(place, parent, placement, counters);
     OwnedPage { content, place }
 }
 
 /// The same, for the place of the page.
-fn moved_up(place: Place, parent: GroupId, counters: &mut Counters) -> Place
+fn moved_up(place: Place, parent: GroupId, placement: Placement, counters: &mut Counters) -> Place
     requires below { (node_at counters.old.tree (group_at place)).parent ≡ Some parent.0 }
     requires out { is_some (frame_at (residence_at place)) ≡ true → IsOut counters.old (group_at place) }
-    ensures group { group_at result ≡ parent.0 }
+    ensures group { group_at result ≡ heir placement parent.0 (residence_at place) }
     ensures residence { residence_at result ≡ residence_at place }
     ensures bytes { bytes_at result ≡ bytes_at place }
     ensures backed { (content : Content_of) → is_backed content result ≡ is_backed content place }
@@ -394,7 +401,7 @@ fn moved_up(place: Place, parent: GroupId, counters: &mut Counters) -> Place
             ticket,
         },
         Place::Away { group: _, slot } => Place::Away {
-            group: parent,
+            group: placement.heir_of_swapped(parent),
             slot,
         },
     }

@@ -17,4 +17,4 @@ pub use markup::{
 };
 pub use moments::{Moments, Sign};
 pub use pen::Pen;
-pub use scale::{Scale, Size, bytes_of, line_marks, page_marks};
+pub use scale::{Scale, Size, line_marks, page_marks};

@@ -1,9 +1,6 @@
 //! Scales, and the numbers along them.
 
-ghost use Rattle.std.specs.Prelude.{◌≡◌, ◌*◌};
-ghost use Rattle.machine.specs.Access.{page_size};
-
-use machine::bytes::PAGE_BYTES;
+use machine::page_size::PageSize;
 use std::alloc::{AllocError, Global};
 use std::fmt;
 use std::fmt::{Formatter, Write};
@@ -81,21 +78,17 @@ pub fn page_marks(alloc: Global, scale: Scale) -> Result<Vec<u64>, AllocError> {
     marks(alloc, scale, binary_step(scale.greatest))
 }
 
-/// This number of pages, in bytes.
-pub fn bytes_of(pages: u64) -> u128
-    ensures { result ≡ pages * page_size }
-{
-    u128::from(pages) * u128::from(PAGE_BYTES as u64)
-}
-
-/// This number of pages in bytes as people write them: in the greatest of the units G, M and K that leaves no
+/// A number of pages of this size, as people write bytes: in the greatest of the units G, M and K that leaves no
 /// remainder.
 #[derive(Clone, Copy)]
-pub struct Size(pub u64);
+pub struct Size {
+    pub pages: u64,
+    pub page_size: PageSize,
+}
 
 impl fmt::Display for Size {
     fn fmt<W: Write>(&self, f: &mut Formatter<W>) -> fmt::Result {
-        let bytes = bytes_of(self.0);
+        let bytes = self.page_size.bytes_of(self.pages);
         for (unit, name) in [(1u128 << 30, 'G'), (1u128 << 20, 'M'), (1u128 << 10, 'K')] {
             if bytes >= unit && bytes % unit == 0 {
                 return write!(f, "{}{name}", bytes / unit);

@@ -8,7 +8,8 @@ use Rattle.driver.proofs.SinkLemmas.{opening_starts}
 use Rattle.printer.specs.declared.options.Options.{Options}
 use Rattle.printer.specs.Asked.{marks_lines}
 use Rattle.printer.specs.Prints.{PrintsStart, Cut}
+use Rattle.printer.specs.Sinks.{asked_of}
 use Rattle.printer.specs.SinkLaws.{out_begins-nil}
 
 pub nothing_prints : (config : Config) (before : Disk) (steps : List Step) (options : Options) (old : Option (List ℕ)) → fits config before ≡ true → marks_lines options ≡ false → PrintsStart config before steps options old old
-nothing_prints config before steps options old fit plain = Cut [] before (opening_starts config before steps fit) (out_begins-nil options old plain)
+nothing_prints config before steps options old fit plain = Cut [] before (opening_starts config before steps fit) (out_begins-nil (asked_of options config) old plain)

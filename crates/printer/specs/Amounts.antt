@@ -6,7 +6,6 @@ use Rattle.std.specs.Str.{bytes_eq}
 use Rattle.machine.specs.declared.command.Answer.{Answer}
 use Rattle.machine.specs.declared.command.Answer.TheVariants as answer
 use Rattle.machine.specs.declared.command.Reply.{Reply}
-use Rattle.machine.specs.Access.{page_size}
 use Rattle.machine.specs.Numbers.{number_below}
 use Rattle.printer.specs.declared.amounts.Amounts.{Amounts}
 use Rattle.printer.specs.declared.amounts.Amounts.TheVariants.{Bytes, Human, Pages}
@@ -35,24 +34,24 @@ human_text bytes =
     else if nat_lt (tenths_of 1073741824 bytes) 10240 then unit_text 1073741824 (codes "G") bytes
     else unit_text 1099511627776 (codes "T") bytes
 
-abbrev pub pages_text : ℕ → List ℕ
-pages_text bytes = decimal (bytes / page_size)
+abbrev pub pages_text : ℕ → ℕ → List ℕ
+pages_text page_size bytes = decimal (bytes / page_size)
 
--- it is an amount that has pages. (Excludes the flag 1.)
-abbrev pub has_pages : ℕ → Bool
-has_pages bytes = not (bytes == 0) && bytes % page_size == 0
+-- it is an amount that has pages of this size. (Excludes the flag 1.)
+abbrev pub has_pages : ℕ → ℕ → Bool
+has_pages page_size bytes = not (bytes == 0) && bytes % page_size == 0
 
--- a number of a control file
-abbrev pub number_text : Amounts → ℕ → List ℕ
-number_text Bytes number = decimal number
-number_text Human number = if has_pages number then human_text number else decimal number
-number_text Pages number = if has_pages number then pages_text number else decimal number
+-- a number of a control file, with pages of this size
+abbrev pub number_text : ℕ → Amounts → ℕ → List ℕ
+number_text page_size Bytes number = decimal number
+number_text page_size Human number = if has_pages page_size number then human_text number else decimal number
+number_text page_size Pages number = if has_pages page_size number then pages_text page_size number else decimal number
 
 -- ---- a text
 
 -- a number is printed so, and another word as it is
-abbrev pub word_in : Amounts → List ℕ → List ℕ
-word_in amounts word = option_map_or (number_text amounts) (number_below (2 ^ 64) word) word
+abbrev pub word_in : ℕ → Amounts → List ℕ → List ℕ
+word_in page_size amounts word = option_map_or (number_text page_size amounts) (number_below (2 ^ 64) word) word
 
 abbrev pub is_space : ℕ → Bool
 is_space b = b == 32
@@ -61,29 +60,29 @@ is_space b = b == 32
 abbrev pub has_type : List ℕ → Bool
 has_type row = nat_lt (position_or_len is_space row) (length row) && (bytes_eq (before_first is_space row) (codes "anon") || bytes_eq (before_first is_space row) (codes "file"))
 
-abbrev pub row_in : Amounts → List ℕ → List ℕ
-row_in amounts row = if has_type row then before_first is_space row ++ 32 ∷ word_in amounts (after_first is_space row) else word_in amounts row
+abbrev pub row_in : ℕ → Amounts → List ℕ → List ℕ
+row_in page_size amounts row = if has_type row then before_first is_space row ++ 32 ∷ word_in page_size amounts (after_first is_space row) else word_in page_size amounts row
 
 abbrev pub is_end : ℕ → Bool
 is_end b = b == 10
 
 -- the rows of a text, each printed so; the first of them begins with these bytes
-abbrev pub rows_in : Amounts → List ℕ → List ℕ → List ℕ
-rows_in amounts row [] = row_in amounts row
-rows_in amounts row (b ∷ bs) = if is_end b then row_in amounts row ++ 10 ∷ rows_in amounts [] bs else rows_in amounts (row ++ b ∷ []) bs
+abbrev pub rows_in : ℕ → Amounts → List ℕ → List ℕ → List ℕ
+rows_in page_size amounts row [] = row_in page_size amounts row
+rows_in page_size amounts row (b ∷ bs) = if is_end b then row_in page_size amounts row ++ 10 ∷ rows_in page_size amounts [] bs else rows_in page_size amounts (row ++ b ∷ []) bs
 
 -- ---- an answer
 
 -- an answer with the amounts in its text printed so
-abbrev pub answer_in : Amounts → Answer → Answer
-answer_in amounts (answer.Text text) = answer.Text (rows_in amounts [] text)
-answer_in amounts answer.Done = answer.Done
-answer_in amounts (answer.Kill task) = answer.Kill task
-answer_in amounts (answer.KillAll victim tasks) = answer.KillAll victim tasks
-answer_in amounts (answer.Byte byte) = answer.Byte byte
-answer_in amounts (answer.Word said) = answer.Word said
+abbrev pub answer_in : ℕ → Amounts → Answer → Answer
+answer_in page_size amounts (answer.Text text) = answer.Text (rows_in page_size amounts [] text)
+answer_in page_size amounts answer.Done = answer.Done
+answer_in page_size amounts (answer.Kill task) = answer.Kill task
+answer_in page_size amounts (answer.KillAll victim tasks) = answer.KillAll victim tasks
+answer_in page_size amounts (answer.Byte byte) = answer.Byte byte
+answer_in page_size amounts (answer.Word said) = answer.Word said
 
-abbrev pub reply_in : Amounts → Reply → Reply
-reply_in Bytes reply = reply
-reply_in Human reply = record { actor = reply.actor; answer = answer_in Human reply.answer }
-reply_in Pages reply = record { actor = reply.actor; answer = answer_in Pages reply.answer }
+abbrev pub reply_in : ℕ → Amounts → Reply → Reply
+reply_in page_size Bytes reply = reply
+reply_in page_size Human reply = record { actor = reply.actor; answer = answer_in page_size Human reply.answer }
+reply_in page_size Pages reply = record { actor = reply.actor; answer = answer_in page_size Pages reply.answer }

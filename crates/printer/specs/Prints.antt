@@ -39,9 +39,9 @@ is_minor other = false
 abbrev pub kept_by : Bool → List Reply → List Reply
 kept_by quiet answers = if quiet then filter (λ (reply : Reply). not (is_minor reply.answer)) answers else answers
 
--- these, with the amounts of memory in them as the options ask for
-abbrev pub shown_by : Options → List Reply → List Reply
-shown_by options answers = map (reply_in options.amounts) (kept_by options.quiet answers)
+-- these, with the amounts of memory in them as the options ask for, with pages of this size
+abbrev pub shown_by : ℕ → Options → List Reply → List Reply
+shown_by page_size options answers = map (reply_in page_size options.amounts) (kept_by options.quiet answers)
 
 -- the word says that a line did not do what it asks for. (That a task was killed is an event of the machine.)
 abbrev pub is_refusing : Said → Bool
@@ -72,14 +72,14 @@ pub record PrintsRun (config : Config) (before : Disk) (steps : List Step) (opti
   pub after : Disk
   pub schedules : Schedules config before steps answers after
   pub strict : options.strict ≡ true → any_refuses answers ≡ false
-  pub prints : Appends old new (texts (shown_by options answers) ++ behind_answers options)
+  pub prints : Appends old new (texts (shown_by config.page_size.bytes options answers) ++ behind_answers options)
 
 -- a writer got the beginning of that
 pub data PrintsStart (config : Config) (before : Disk) (steps : List Step) (options : Options) (old new : Option (List ℕ)) : Type 0 where
   -- of what the answers print to the first of these steps, and to what was carried out of the step behind them
-  Cut : (answers : List Reply) (after : Disk) → Starts config before steps answers after → AppendsStart old new (texts (shown_by options answers)) → PrintsStart config before steps options old new
+  Cut : (answers : List Reply) (after : Disk) → Starts config before steps answers after → AppendsStart old new (texts (shown_by config.page_size.bytes options answers)) → PrintsStart config before steps options old new
   -- or all was answered, and it is of what the answers print with what else is asked for behind
-  Short : (answers : List Reply) (after : Disk) → Schedules config before steps answers after → AppendsStart old new (texts (shown_by options answers) ++ behind_answers options) → PrintsStart config before steps options old new
+  Short : (answers : List Reply) (after : Disk) → Schedules config before steps answers after → AppendsStart old new (texts (shown_by config.page_size.bytes options answers) ++ behind_answers options) → PrintsStart config before steps options old new
 
 -- a strict run ended at the first answer that refuses something, and a writer got what the answers print up to that, and that one too. (Excludes a run
 -- that ends without a refusal, that goes on behind one, or that keeps the last answer.)
@@ -90,7 +90,7 @@ pub record EndsRun (config : Config) (before : Disk) (steps : List Step) (option
   pub starts : Starts config before steps (answers ++ last ∷ []) after
   pub earlier : any_refuses answers ≡ false
   pub refused : refuses last.answer ≡ true
-  pub prints : Appends old new (texts (shown_by options (answers ++ last ∷ [])))
+  pub prints : Appends old new (texts (shown_by config.page_size.bytes options (answers ++ last ∷ [])))
 
 -- why no more answers are taken: the last of them refuses something
 abbrev pub is_end : Stopped → Bool

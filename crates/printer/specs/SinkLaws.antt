@@ -8,11 +8,11 @@ use Rattle.std.specs.Io.KnownBytes.{Appends, Keeps}
 use Rattle.std.proofs.KnownBytes.{Appends-nil, Appends-trans, Appends-kept}
 use Rattle.machine.specs.declared.command.Reply.{Reply}
 use Rattle.machine.specs.Printed.{printed}
-use Rattle.printer.specs.declared.options.Options.{Options}
+use Rattle.printer.specs.declared.options.Printing.{Printing}
 use Rattle.printer.specs.Asked.{marks_lines, speaks_on}
 use Rattle.printer.specs.Amounts.{reply_in}
-use Rattle.printer.specs.Prints.{texts, kept_by, shown_by, is_minor, refuses, any_refuses, AppendsStart}
-use Rattle.printer.specs.Sinks.{OutTakes, OutBegins, IsQuiet, GoesOn}
+use Rattle.printer.specs.Prints.{texts, kept_by, is_minor, refuses, any_refuses, AppendsStart}
+use Rattle.printer.specs.Sinks.{shown_in, OutTakes, OutBegins, IsQuiet, GoesOn}
 
 pub texts-append : (xs ys : List Reply) → texts (xs ++ ys) ≡ texts xs ++ texts ys
 texts-append [] ys = refl
@@ -23,19 +23,19 @@ kept-append : (quiet : Bool) (xs ys : List Reply) → kept_by quiet (xs ++ ys) �
 kept-append true xs ys = filter-append (λ (reply : Reply). not (is_minor reply.answer)) xs ys
 kept-append false xs ys = refl
 
-pub texts-shown : (o : Options) (xs ys : List Reply) → texts (shown_by o (xs ++ ys)) ≡ texts (shown_by o xs) ++ texts (shown_by o ys)
+pub texts-shown : (o : Printing) (xs ys : List Reply) → texts (shown_in o (xs ++ ys)) ≡ texts (shown_in o xs) ++ texts (shown_in o ys)
 texts-shown o xs ys =
-    ap (λ (rs : List Reply). texts (map (reply_in o.amounts) rs)) (kept-append o.quiet xs ys)
-    ∙ ap texts (map-append (reply_in o.amounts) (kept_by o.quiet xs) (kept_by o.quiet ys))
-    ∙ texts-append (shown_by o xs) (shown_by o ys)
+    ap (λ (rs : List Reply). texts (map (reply_in o.page_size.bytes o.options.amounts) rs)) (kept-append o.options.quiet xs ys)
+    ∙ ap texts (map-append (reply_in o.page_size.bytes o.options.amounts) (kept_by o.options.quiet xs) (kept_by o.options.quiet ys))
+    ∙ texts-append (shown_in o xs) (shown_in o ys)
 
 -- nothing is kept of nothing
 kept-nil : (quiet : Bool) → kept_by quiet [] ≡ []
 kept-nil true = refl
 kept-nil false = refl
 
-texts-nothing : (o : Options) → texts (shown_by o []) ≡ []
-texts-nothing o = ap (λ (rs : List Reply). texts (map (reply_in o.amounts) rs)) (kept-nil o.quiet)
+texts-nothing : (o : Printing) → texts (shown_in o []) ≡ []
+texts-nothing o = ap (λ (rs : List Reply). texts (map (reply_in o.page_size.bytes o.options.amounts) rs)) (kept-nil o.options.quiet)
 
 -- nothing is the beginning of everything
 pub starts-nil : (a : Option (List ℕ)) (bs : List ℕ) → AppendsStart a a bs
@@ -49,53 +49,53 @@ starts-whole a b bs h = record { count = length bs; appends = subst (Appends a b
 pub starts-behind : (a b c : Option (List ℕ)) (bs cs : List ℕ) → Appends a b bs → AppendsStart b c cs → AppendsStart a c (bs ++ cs)
 starts-behind a b c bs cs first second = record { count = length bs + second.count; appends = subst (Appends a c) (sym (take-append-add bs cs second.count)) (Appends-trans a b c bs (take second.count cs) first second.appends) }
 
-pub out_takes-nil : (o : Options) (a : Option (List ℕ)) → OutTakes o a a []
+pub out_takes-nil : (o : Printing) (a : Option (List ℕ)) → OutTakes o a a []
 out_takes-nil o a = λ plain. subst (Appends a a) (sym (texts-nothing o)) (Appends-nil a)
 
-pub out_begins-nil : (o : Options) (a : Option (List ℕ)) → OutBegins o a a []
-out_begins-nil o a = λ plain. starts-nil a (texts (shown_by o []))
+pub out_begins-nil : (o : Printing) (a : Option (List ℕ)) → OutBegins o a a []
+out_begins-nil o a = λ plain. starts-nil a (texts (shown_in o []))
 
 -- options that are the same ask for the same
-same-shown : (o p : Options) → p ≡ o → (xs : List Reply) → texts (shown_by p xs) ≡ texts (shown_by o xs)
-same-shown o p same xs = ap (λ (q : Options). texts (shown_by q xs)) same
+same-shown : (o p : Printing) → p ≡ o → (xs : List Reply) → texts (shown_in p xs) ≡ texts (shown_in o xs)
+same-shown o p same xs = ap (λ (q : Printing). texts (shown_in q xs)) same
 
-same-marks : (o p : Options) → p ≡ o → marks_lines o ≡ false → marks_lines p ≡ false
-same-marks o p same plain = ap marks_lines same ∙ plain
+same-marks : (o p : Printing) → p ≡ o → marks_lines o.options ≡ false → marks_lines p.options ≡ false
+same-marks o p same plain = ap (λ (q : Printing). marks_lines q.options) same ∙ plain
 
-pub out_takes-more : (o p : Options) → p ≡ o → (a b c : Option (List ℕ)) (xs ys : List Reply) → OutTakes o a b xs → OutTakes p b c ys → OutTakes o a c (xs ++ ys)
+pub out_takes-more : (o p : Printing) → p ≡ o → (a b c : Option (List ℕ)) (xs ys : List Reply) → OutTakes o a b xs → OutTakes p b c ys → OutTakes o a c (xs ++ ys)
 out_takes-more o p same a b c xs ys first second =
     λ plain.
     let later = subst (Appends b c) (same-shown o p same ys) (second (same-marks o p same plain)) in
-    subst (Appends a c) (sym (texts-shown o xs ys)) (Appends-trans a b c (texts (shown_by o xs)) (texts (shown_by o ys)) (first plain) later)
+    subst (Appends a c) (sym (texts-shown o xs ys)) (Appends-trans a b c (texts (shown_in o xs)) (texts (shown_in o ys)) (first plain) later)
 
-pub quiet-refl : (o : Options) (shown : Option ℕ) (a : Option (List ℕ)) → IsQuiet o shown shown a a
+pub quiet-refl : (o : Printing) (shown : Option ℕ) (a : Option (List ℕ)) → IsQuiet o shown shown a a
 quiet-refl o shown a = λ quiet none. (none, refl)
 
-pub quiet-more : (o p : Options) → p ≡ o → (s t u : Option ℕ) (a b c : Option (List ℕ)) → IsQuiet o s t a b → IsQuiet p t u b c → IsQuiet o s u a c
+pub quiet-more : (o p : Printing) → p ≡ o → (s t u : Option ℕ) (a b c : Option (List ℕ)) → IsQuiet o s t a b → IsQuiet p t u b c → IsQuiet o s u a c
 quiet-more o p same s t u a b c first second =
     λ quiet none.
     let here = first quiet none in
-    let later = second (ap speaks_on same ∙ quiet) here.0 in
+    let later = second (ap (λ (q : Printing). speaks_on q.options) same ∙ quiet) here.0 in
     (later.0, later.1 ∙ here.1)
 
-pub goes_on-nil : (o : Options) → GoesOn o []
+pub goes_on-nil : (o : Printing) → GoesOn o []
 goes_on-nil o = λ strict. refl
 
 either-none : (here later : Bool) → here ≡ false → later ≡ false → (here || later) ≡ false
 either-none true later first second = first
 either-none false later first second = second
 
-pub goes_on-more : (o p : Options) → p ≡ o → (xs ys : List Reply) → GoesOn o xs → GoesOn p ys → GoesOn o (xs ++ ys)
+pub goes_on-more : (o p : Printing) → p ≡ o → (xs ys : List Reply) → GoesOn o xs → GoesOn p ys → GoesOn o (xs ++ ys)
 goes_on-more o p same xs ys first second =
     λ strict.
-    list_any-append (λ (reply : Reply). refuses reply.answer) xs ys ∙ either-none (any_refuses xs) (any_refuses ys) (first strict) (second (ap (λ (q : Options). q.strict) same ∙ strict))
+    list_any-append (λ (reply : Reply). refuses reply.answer) xs ys ∙ either-none (any_refuses xs) (any_refuses ys) (first strict) (second (ap (λ (q : Printing). q.options.strict) same ∙ strict))
 
 -- one who takes nothing more
 pub starts-kept : (a b c : Option (List ℕ)) (bs : List ℕ) → AppendsStart a b bs → Keeps b c → AppendsStart a c bs
 starts-kept a b c bs h kept = record { count = h.count; appends = Appends-kept a b c (take h.count bs) h.appends kept }
 
-pub out_begins-behind : (o p : Options) → p ≡ o → (a b c : Option (List ℕ)) (xs ys : List Reply) → OutTakes o a b xs → OutBegins p b c ys → OutBegins o a c (xs ++ ys)
+pub out_begins-behind : (o p : Printing) → p ≡ o → (a b c : Option (List ℕ)) (xs ys : List Reply) → OutTakes o a b xs → OutBegins p b c ys → OutBegins o a c (xs ++ ys)
 out_begins-behind o p same a b c xs ys first second =
     λ plain.
     let later = subst (AppendsStart b c) (same-shown o p same ys) (second (same-marks o p same plain)) in
-    subst (AppendsStart a c) (sym (texts-shown o xs ys)) (starts-behind a b c (texts (shown_by o xs)) (texts (shown_by o ys)) (first plain) later)
+    subst (AppendsStart a c) (sym (texts-shown o xs ys)) (starts-behind a b c (texts (shown_in o xs)) (texts (shown_in o ys)) (first plain) later)

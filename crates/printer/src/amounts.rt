@@ -6,8 +6,8 @@ ghost use Rattle.std.specs.String.{string_bytes};
 ghost use Rattle.machine.specs.Printed.{printed};
 ghost use Rattle.printer.specs.Amounts.{tenths_of, unit_text, human_text, has_pages, number_text, word_in, is_end, row_in, rows_in, reply_in};
 
-use machine::bytes::PAGE_BYTES;
 use machine::command::{Answer, Reply};
+use machine::page_size::PageSize;
 use std::alloc::AllocError;
 use text_forms::number::long_number_of;
 
@@ -19,11 +19,9 @@ pub enum Amounts {
     /// In the first of the units K, M, G and T in which the amount is below 1024, as `512K`, `23.4M` and `1G`. A decimal
     /// is rounded to the nearest, and a tie to the even one.
     Human,
-    /// In pages of 4,096 bytes.
+    /// In pages.
     Pages,
 }
-
-const PAGE: u64 = PAGE_BYTES as u64;
 
 /// A number of bytes in tenths of a unit.
 fn tenths_of(unit: u64, bytes: u64) -> u128
@@ -70,53 +68,77 @@ fn add_human(text: &mut String, bytes: u64) -> Result<(), AllocError>
     }
 }
 
-/// Whether a number is an amount that has pages. A flag is none.
-fn has_pages(number: u64) -> bool
-    ensures { result ≡ has_pages number }
+/// Whether a number is an amount that has pages of this size. A flag is none.
+fn has_pages(page_size: PageSize, number: u64) -> bool
+    ensures { result ≡ has_pages page_size.bytes number }
 {
-    number != 0 && number % PAGE == 0
+    number != 0 && number % page_size.bytes == 0
 }
 
-/// Adds a number of a control file.
-pub fn add_number(text: &mut String, amounts: Amounts, number: u64) -> Result<(), AllocError>
-    ensures { OnOk result (string_bytes text.new ≡ string_bytes text.old ++ number_text amounts number) }
+/// Adds a number of a control file. Its amounts are of pages of this size.
+pub fn add_number(
+    text: &mut String,
+    page_size: PageSize,
+    amounts: Amounts,
+    number: u64,
+) -> Result<(), AllocError>
+    ensures { OnOk result (string_bytes text.new ≡ string_bytes text.old ++ number_text page_size.bytes amounts number) }
 {
     match amounts {
-        Amounts::Human if has_pages(number) => add_human(text, number),
-        Amounts::Pages if has_pages(number) => write!(text, "{}", number / PAGE),
+        Amounts::Human if has_pages(page_size, number) => add_human(text, number),
+        Amounts::Pages if has_pages(page_size, number) => write!(
+            text,
+            "{}",
+            page_size.pages_in(number)
+        ),
         Amounts::Bytes | Amounts::Human | Amounts::Pages => write!(text, "{number}"),
     }
 }
 
 /// Adds a word of a control file.
-fn add_word(text: &mut String, amounts: Amounts, word: &str) -> Result<(), AllocError>
-    ensures { OnOk result (string_bytes text.new ≡ string_bytes text.old ++ word_in amounts word.now) }
+fn add_word(
+    text: &mut String,
+    page_size: PageSize,
+    amounts: Amounts,
+    word: &str,
+) -> Result<(), AllocError>
+    ensures { OnOk result (string_bytes text.new ≡ string_bytes text.old ++ word_in page_size.bytes amounts word.now) }
 {
     match long_number_of(word) {
-        Some(number) => add_number(text, amounts, number),
+        Some(number) => add_number(text, page_size, amounts, number),
         None => text.push_str(word),
     }
 }
 
 /// Adds a row of a control file.
-fn add_row(text: &mut String, amounts: Amounts, row: &str) -> Result<(), AllocError>
-    ensures { OnOk result (string_bytes text.new ≡ string_bytes text.old ++ row_in amounts row.now) }
+fn add_row(
+    text: &mut String,
+    page_size: PageSize,
+    amounts: Amounts,
+    row: &str,
+) -> Result<(), AllocError>
+    ensures { OnOk result (string_bytes text.new ≡ string_bytes text.old ++ row_in page_size.bytes amounts row.now) }
 {
     match row.split_once(' ') {
         Some((name, number)) if name == "anon" || name == "file" => {
             text.push_str(name)?;
             text.push(' ')?;
-            add_word(text, amounts, number)
+            add_word(text, page_size, amounts, number)
         }
-        _ => add_word(text, amounts, row),
+        _ => add_word(text, page_size, amounts, row),
     }
 }
 
 /// Adds a row of a control file and the end of its line.
-fn add_line(text: &mut String, amounts: Amounts, row: &str) -> Result<(), AllocError>
-    ensures { OnOk result (string_bytes text.new ≡ string_bytes text.old ++ (row_in amounts row.now ++ 10 ∷ [])) }
+fn add_line(
+    text: &mut String,
+    page_size: PageSize,
+    amounts: Amounts,
+    row: &str,
+) -> Result<(), AllocError>
+    ensures { OnOk result (string_bytes text.new ≡ string_bytes text.old ++ (row_in page_size.bytes amounts row.now ++ 10 ∷ [])) }
 {
-    add_row(text, amounts, row)?;
+    add_row(text, page_size, amounts, row)?;
     text.push('\n')
 }
 
@@ -129,25 +151,35 @@ fn first_row(text: &str) -> Option<(&str, &str)>
 }
 
 /// Adds all rows of a control file.
-fn add_rows(text: &mut String, amounts: Amounts, said: &str) -> Result<(), AllocError>
-    ensures { OnOk result (string_bytes text.new ≡ string_bytes text.old ++ rows_in amounts [] said.now) }
+fn add_rows(
+    text: &mut String,
+    page_size: PageSize,
+    amounts: Amounts,
+    said: &str,
+) -> Result<(), AllocError>
+    ensures { OnOk result (string_bytes text.new ≡ string_bytes text.old ++ rows_in page_size.bytes amounts [] said.now) }
 {
     let mut rest = said;
     while let Some((row, behind)) = first_row(rest) {
-        add_line(text, amounts, row)?;
+        add_line(text, page_size, amounts, row)?;
         rest = behind;
     }
-    add_row(text, amounts, rest)
+    add_row(text, page_size, amounts, rest)
 }
 
 /// Adds the line of an answer, with its amounts printed so.
-pub fn add_reply(text: &mut String, amounts: Amounts, reply: &Reply) -> Result<(), AllocError>
-    ensures { OnOk result (string_bytes text.new ≡ string_bytes text.old ++ printed (reply_in amounts reply.now)) }
+pub fn add_reply(
+    text: &mut String,
+    page_size: PageSize,
+    amounts: Amounts,
+    reply: &Reply,
+) -> Result<(), AllocError>
+    ensures { OnOk result (string_bytes text.new ≡ string_bytes text.old ++ printed (reply_in page_size.bytes amounts reply.now)) }
 {
     match amounts {
         Amounts::Bytes => reply.print(text),
         Amounts::Human | Amounts::Pages => match &reply.answer {
-            Answer::Text(said) => add_rows(text, amounts, said.as_str()),
+            Answer::Text(said) => add_rows(text, page_size, amounts, said.as_str()),
             Answer::Done | Answer::Kill(_) | Answer::Byte(_) | Answer::Word(_) => reply.print(text),
             Answer::KillAll {
                 victim: _,

@@ -5,6 +5,7 @@ use driver::Answer;
 use machine::amount::Amount;
 use machine::event::Cause;
 use machine::id::TaskId;
+use machine::page_size::PageSize;
 use pictures::Size;
 use std::fmt;
 use std::fmt::{Formatter, Write};
@@ -64,14 +65,15 @@ pub struct Killing<'s> {
     pub dead: u32,
     /// Page frames of the machine.
     pub frames: u32,
+    /// How many bytes a page stands for.
+    pub page_size: PageSize,
     /// The first two of the other tasks that were as large.
     pub first_tied: Option<TaskId>,
     pub second_tied: Option<TaskId>,
 }
 
 /// Writes that no frame is free. The number of a script without a line `frames` comes with the name of that line.
-fn write_frames<W: Write>(f: &mut Formatter<W>, frames: u32) -> fmt::Result {
-    let size = Size(u64::from(frames));
+fn write_frames<W: Write>(f: &mut Formatter<W>, frames: u32, size: Size) -> fmt::Result {
     write!(f, "at or below /: no frame is free of {frames} ({size}")?;
     if frames == DEFAULT_FRAMES {
         f.write_str(r#"; a line "frames" sets another number"#)?;
@@ -117,6 +119,14 @@ impl fmt::Display for GroupKill<'_, '_> {
 }
 
 impl Killing<'_> {
+    /// So many pages.
+    fn size(&self, pages: u64) -> Size {
+        Size {
+            pages,
+            page_size: self.page_size,
+        }
+    }
+
     /// Writes how large the task was, and among how many tasks.
     fn write_choice<W: Write>(&self, f: &mut Formatter<W>) -> fmt::Result {
         let pages = Pages(self.victim.pages);
@@ -130,16 +140,16 @@ impl Killing<'_> {
     fn write_limit<W: Write>(&self, f: &mut Formatter<W>) -> fmt::Result {
         let path = self.path;
         match (self.cause, self.max) {
-            (Cause::Frame, _) => write_frames(f, self.frames),
+            (Cause::Frame, _) => write_frames(f, self.frames, self.size(u64::from(self.frames))),
             // Not reached: a group without a max has room.
             (_, Amount::Max) => write!(f, "at or below {path}:"),
             (Cause::Charge(_), Amount::Pages(max)) => {
-                let max = Size(max);
+                let max = self.size(max);
                 write!(f, "at or below {path}, whose memory.max {max} is reached:")
             }
             (Cause::Lower(_), Amount::Pages(max)) => {
-                let max = Size(max);
-                let usage = Size(self.usage);
+                let max = self.size(max);
+                let usage = self.size(self.usage);
                 write!(
                     f,
                     "at or below {path}, whose {usage} are more than its new memory.max {max}:"

@@ -8,10 +8,10 @@ use crate::options::Options;
 use crate::source::paths_of;
 use book::{Book, GroupLook, PageLook};
 use driver::{Config, FailedCall, Schedule};
-use machine::bytes::PAGE_BYTES;
 use machine::config::{File, FileList};
 use machine::event::Cause;
 use machine::id::GroupId;
+use machine::page_size::PageSize;
 use machine::record::Kind;
 use std::alloc::{AllocError, Global};
 use std::io;
@@ -46,6 +46,8 @@ struct Failed<'s> {
 pub struct Observed<'s> {
     /// Page frames of the machine.
     frames: u32,
+    /// How many bytes a page stands for.
+    page_size: PageSize,
     /// Swap blocks of the device, which come before the blocks of the files.
     swap: u32,
     /// The files, if something asks for failed calls.
@@ -90,15 +92,16 @@ impl<'s> Seen<'s> {
     fn write_peak<W: Write>(
         &self,
         to: &mut W,
+        page_size: PageSize,
         amounts: Amounts,
         text: &mut String,
     ) -> io::Result<()> {
-        let bytes = self.peak.saturating_mul(PAGE_BYTES as u64);
+        let bytes = self.peak.saturating_mul(page_size.bytes);
         match amounts {
             Amounts::Bytes => writeln!(to, "greatest memory.current of {}: {bytes}", self.path),
             Amounts::Human | Amounts::Pages => {
                 text.clear();
-                add_number(text, amounts, bytes)?;
+                add_number(text, page_size, amounts, bytes)?;
                 writeln!(to, "greatest memory.current of {}: {text}", self.path)
             }
         }
@@ -127,6 +130,7 @@ impl<'s> Observed<'s> {
     fn nothing(alloc: Global, config: &Config) -> Observed<'s> {
         Observed {
             frames: config.frames,
+            page_size: config.page_size,
             swap: config.swap,
             files: Vec::new(alloc),
             groups: Vec::new(alloc),
@@ -177,6 +181,7 @@ impl<'s> Observed<'s> {
             group: group.map(|(path, _)| path),
             dead: 0,
             frames: self.frames,
+            page_size: self.page_size,
             first_tied: first,
             second_tied: first.and_then(|first| book.next_as_large(&victim, first)),
         });
@@ -250,7 +255,7 @@ impl<'s> Observed<'s> {
         let mut peak = String::new(*self.groups.allocator());
         for seen in self.groups.iter() {
             if seen.is_told {
-                seen.write_peak(to, amounts, &mut peak)?;
+                seen.write_peak(to, self.page_size, amounts, &mut peak)?;
             }
         }
         Ok(())

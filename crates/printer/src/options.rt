@@ -6,6 +6,7 @@ ghost use Rattle.printer.specs.Asked.{plain};
 use crate::amounts::Amounts;
 use machine::config::Placement;
 use machine::limit::USUAL_TURNS;
+use machine::page_size::PageSize;
 
 /// How a script is run, how its answers are shown, and what is said besides them. By default, answers are shown as
 /// they are, and nothing else is said. A script's fault is reported with its line and its cause.
@@ -40,6 +41,13 @@ pub struct Options {
     /// The most turns of a line that is run to its answer. What is not done by then continues at later lines of its
     /// actor.
     pub turns: u32,
+}
+
+/// What is asked for, and how many bytes a page stands for in what is printed.
+#[derive(Clone, Copy)]
+pub(crate) struct Printing {
+    pub options: Options,
+    pub page_size: PageSize,
 }
 
 impl Default for Options {

@@ -15,7 +15,7 @@ use crate::judged::{is_minor, refusal_of};
 use crate::killing::{GroupKill, Killed, Killing, killed_in};
 use crate::metered::{Calls, Metered, Moved};
 use crate::observed::Observed;
-use crate::options::Options;
+use crate::options::{Options, Printing};
 use crate::output::{write_bytes, write_line};
 use crate::source::{Line, Source, Texts, lines_for};
 use crate::stopped::Stopped;
@@ -49,7 +49,7 @@ pub const ERASE: &[u8] = b"\r\x1b[K";
 struct Printer<'o, 'e, 's, 'l, 't, 'b, 'g, 'p, 'f, O: Write, E: Write> {
     out: &'o mut O,
     err: &'e mut E,
-    options: Options,
+    asked: Printing,
     source: Source<'s>,
     texts: Texts<'l, 's>,
     /// What is written next.
@@ -91,26 +91,31 @@ impl<'o, 'e, 's, 'l, 't, 'b, 'g, 'p, 'f, O: Write, E: Write> Printer<
     fn write(&mut self, step: usize, reply: &Reply) -> io::Result<()>
         ensures out { self.new.out.ghost_name ≡ self.old.out.ghost_name }
         ensures err { self.new.err.ghost_name ≡ self.old.err.ghost_name }
-        ensures options { self.new.options ≡ self.old.options }
+        ensures asked { self.new.asked ≡ self.old.asked }
         ensures stopped { self.new.stopped.now ≡ self.old.stopped.now }
-        ensures whole { OnOk result (OutTakes self.old.options (O.contents self.old.out.now) (O.contents self.new.out.now) (reply.now ∷ [])) }
-        ensures start { OnErr result (OutBegins self.old.options (O.contents self.old.out.now) (O.contents self.new.out.now) (reply.now ∷ [])) }
-        ensures quiet { IsQuiet self.old.options self.old.shown self.new.shown (E.contents self.old.err.now) (E.contents self.new.err.now) }
+        ensures whole { OnOk result (OutTakes self.old.asked (O.contents self.old.out.now) (O.contents self.new.out.now) (reply.now ∷ [])) }
+        ensures start { OnErr result (OutBegins self.old.asked (O.contents self.old.out.now) (O.contents self.new.out.now) (reply.now ∷ [])) }
+        ensures quiet { IsQuiet self.old.asked self.old.shown self.new.shown (E.contents self.old.err.now) (E.contents self.new.err.now) }
     {
-        if self.options.quiet && is_minor(&reply.answer) {
+        if self.asked.options.quiet && is_minor(&reply.answer) {
             return Ok(());
         }
         self.text.clear();
-        add_reply(self.text, self.options.amounts, reply)?;
+        add_reply(
+            self.text,
+            self.asked.page_size,
+            self.asked.options.amounts,
+            reply,
+        )?;
         if self.text.is_empty() {
             return Ok(());
         }
         self.hide();
-        if !self.options.marks_lines() {
+        if !self.asked.options.marks_lines() {
             return write_bytes(self.out, self.text.as_bytes());
         }
         let killing = match killed_in(&reply.answer) {
-            Some(killed) if self.options.labels => self.observed.killing_of(killed),
+            Some(killed) if self.asked.options.labels => self.observed.killing_of(killed),
             _ => None,
         };
         self.write_marked(step, killing)
@@ -119,10 +124,10 @@ impl<'o, 'e, 's, 'l, 't, 'b, 'g, 'p, 'f, O: Write, E: Write> Printer<
     /// Writes the lines that are to be written next. Each begins with the number of its line of the script, and
     /// with that line's words if they are asked for. Then a kill gets more words, too.
     fn write_marked(&mut self, step: usize, killing: Option<Killing<'_>>) -> io::Result<()>
-        requires { marks_lines self.old.options ≡ true }
+        requires { marks_lines self.old.asked.options ≡ true }
         ensures out { self.new.out.ghost_name ≡ self.old.out.ghost_name }
         ensures err { self.new.err ≡ self.old.err }
-        ensures options { self.new.options ≡ self.old.options }
+        ensures asked { self.new.asked ≡ self.old.asked }
         ensures stopped { self.new.stopped.now ≡ self.old.stopped.now }
         ensures shown { self.new.shown ≡ self.old.shown }
     {
@@ -131,7 +136,7 @@ impl<'o, 'e, 's, 'l, 't, 'b, 'g, 'p, 'f, O: Write, E: Write> Printer<
         let alloc = *self.text.allocator();
         let mut marked = String::new(alloc);
         for line in self.text.lines() {
-            if self.options.labels {
+            if self.asked.options.labels {
                 write!(marked, "{number}: {words}: {line}")?;
                 if let Some(killing) = &killing {
                     write!(marked, "{}", GroupKill(killing))?;
@@ -148,10 +153,10 @@ impl<'o, 'e, 's, 'l, 't, 'b, 'g, 'p, 'f, O: Write, E: Write> Printer<
     fn hide(&mut self)
         ensures out { self.new.out ≡ self.old.out }
         ensures err { self.new.err.ghost_name ≡ self.old.err.ghost_name }
-        ensures options { self.new.options ≡ self.old.options }
+        ensures asked { self.new.asked ≡ self.old.asked }
         ensures text { self.new.text.now ≡ self.old.text.now }
         ensures stopped { self.new.stopped.now ≡ self.old.stopped.now }
-        ensures quiet { IsQuiet self.old.options self.old.shown self.new.shown (E.contents self.old.err.now) (E.contents self.new.err.now) }
+        ensures quiet { IsQuiet self.old.asked self.old.shown self.new.shown (E.contents self.old.err.now) (E.contents self.new.err.now) }
     {
         if self.shown.take().is_some() {
             // Nothing depends on it: the run continues if it can't be written.
@@ -163,7 +168,7 @@ impl<'o, 'e, 's, 'l, 't, 'b, 'g, 'p, 'f, O: Write, E: Write> Printer<
     fn show(&mut self, step: usize)
         ensures out { self.new.out ≡ self.old.out }
         ensures err { self.new.err.ghost_name ≡ self.old.err.ghost_name }
-        ensures options { self.new.options ≡ self.old.options }
+        ensures asked { self.new.asked ≡ self.old.asked }
         ensures stopped { self.new.stopped.now ≡ self.old.stopped.now }
     {
         let source = self.source;
@@ -180,7 +185,7 @@ impl<'o, 'e, 's, 'l, 't, 'b, 'g, 'p, 'f, O: Write, E: Write> Printer<
     fn tell_progress(&mut self, step: usize)
         ensures out { self.new.out ≡ self.old.out }
         ensures err { self.new.err.ghost_name ≡ self.old.err.ghost_name }
-        ensures options { self.new.options ≡ self.old.options }
+        ensures asked { self.new.asked ≡ self.old.asked }
         ensures stopped { self.new.stopped.now ≡ self.old.stopped.now }
     {
         let source = self.source;
@@ -198,7 +203,7 @@ impl<'o, 'e, 's, 'l, 't, 'b, 'g, 'p, 'f, O: Write, E: Write> Printer<
     fn leave_shown(&mut self)
         ensures out { self.new.out ≡ self.old.out }
         ensures err { self.new.err.ghost_name ≡ self.old.err.ghost_name }
-        ensures options { self.new.options ≡ self.old.options }
+        ensures asked { self.new.asked ≡ self.old.asked }
         ensures stopped { self.new.stopped.now ≡ self.old.stopped.now }
     {
         let source = self.source;
@@ -211,7 +216,7 @@ impl<'o, 'e, 's, 'l, 't, 'b, 'g, 'p, 'f, O: Write, E: Write> Printer<
     fn say_why(&mut self, step: usize, actor: Actor, word: Word) -> io::Result<()>
         ensures out { self.new.out ≡ self.old.out }
         ensures err { self.new.err ≡ self.old.err }
-        ensures options { self.new.options ≡ self.old.options }
+        ensures asked { self.new.asked ≡ self.old.asked }
         ensures stopped { self.new.stopped.now ≡ self.old.stopped.now }
         ensures shown { self.new.shown ≡ self.old.shown }
     {
@@ -241,19 +246,19 @@ impl<'o, 'e, 's, 'l, 't, 'b, 'g, 'p, 'f, O: Write, E: Write> Printer<
     fn heed(&mut self, step: usize, actor: Actor, word: Word) -> Result<(), Stopped>
         ensures out { self.new.out.ghost_name ≡ self.old.out.ghost_name }
         ensures err { self.new.err.ghost_name ≡ self.old.err.ghost_name }
-        ensures options { self.new.options ≡ self.old.options }
+        ensures asked { self.new.asked ≡ self.old.asked }
         ensures stopped { self.new.stopped.now ≡ self.old.stopped.now }
         ensures kept { Keeps (O.contents self.old.out.now) (O.contents self.new.out.now) }
-        ensures goes_on { OnOk result (self.old.options.strict ≡ false) }
-        ensures ends { IfErr result (λ why. is_end why ≡ true → self.old.options.strict ≡ true) }
-        ensures quiet { IsQuiet self.old.options self.old.shown self.new.shown (E.contents self.old.err.now) (E.contents self.new.err.now) }
+        ensures goes_on { OnOk result (self.old.asked.options.strict ≡ false) }
+        ensures ends { IfErr result (λ why. is_end why ≡ true → self.old.asked.options.strict ≡ true) }
+        ensures quiet { IsQuiet self.old.asked self.old.shown self.new.shown (E.contents self.old.err.now) (E.contents self.new.err.now) }
     {
-        if self.options.strict {
+        if self.asked.options.strict {
             return Err(self.end_at(step, actor, word));
         }
         let source = self.source;
         self.tally = self.tally.with_failed(source.line_of(step));
-        if self.options.explain && !self.is_told(word) {
+        if self.asked.options.explain && !self.is_told(word) {
             self.tell_why(step, actor, word)?;
         }
         Ok(())
@@ -268,7 +273,7 @@ impl<'o, 'e, 's, 'l, 't, 'b, 'g, 'p, 'f, O: Write, E: Write> Printer<
     fn end_at(&mut self, step: usize, actor: Actor, word: Word) -> Stopped
         ensures out { self.new.out ≡ self.old.out }
         ensures err { self.new.err ≡ self.old.err }
-        ensures options { self.new.options ≡ self.old.options }
+        ensures asked { self.new.asked ≡ self.old.asked }
         ensures stopped { self.new.stopped.now ≡ self.old.stopped.now }
         ensures shown { self.new.shown ≡ self.old.shown }
     {
@@ -284,10 +289,10 @@ impl<'o, 'e, 's, 'l, 't, 'b, 'g, 'p, 'f, O: Write, E: Write> Printer<
 
     /// Says which line was refused, and why, after all answers are out.
     fn tell_why(&mut self, step: usize, actor: Actor, word: Word) -> Result<(), Stopped>
-        requires { self.old.options.explain ≡ true }
+        requires { self.old.asked.options.explain ≡ true }
         ensures out { self.new.out.ghost_name ≡ self.old.out.ghost_name }
         ensures err { self.new.err.ghost_name ≡ self.old.err.ghost_name }
-        ensures options { self.new.options ≡ self.old.options }
+        ensures asked { self.new.asked ≡ self.old.asked }
         ensures stopped { self.new.stopped.now ≡ self.old.stopped.now }
         ensures kept { Keeps (O.contents self.old.out.now) (O.contents self.new.out.now) }
         ensures ends { IfErr result (λ why. is_end why ≡ false) }
@@ -300,10 +305,10 @@ impl<'o, 'e, 's, 'l, 't, 'b, 'g, 'p, 'f, O: Write, E: Write> Printer<
 
     /// Writes the text as a line of messages, after all answers are out.
     fn say(&mut self) -> Result<(), Stopped>
-        requires { self.old.options.explain ≡ true }
+        requires { self.old.asked.options.explain ≡ true }
         ensures out { self.new.out.ghost_name ≡ self.old.out.ghost_name }
         ensures err { self.new.err.ghost_name ≡ self.old.err.ghost_name }
-        ensures options { self.new.options ≡ self.old.options }
+        ensures asked { self.new.asked ≡ self.old.asked }
         ensures stopped { self.new.stopped.now ≡ self.old.stopped.now }
         ensures kept { Keeps (O.contents self.old.out.now) (O.contents self.new.out.now) }
         ensures ends { IfErr result (λ why. is_end why ≡ false) }
@@ -320,16 +325,16 @@ impl<'o, 'e, 's, 'l, 't, 'b, 'g, 'p, 'f, O: Write, E: Write> Printer<
     fn tell_kill(&mut self, step: usize, answer: &Answer) -> Result<(), Stopped>
         ensures out { self.new.out.ghost_name ≡ self.old.out.ghost_name }
         ensures err { self.new.err.ghost_name ≡ self.old.err.ghost_name }
-        ensures options { self.new.options ≡ self.old.options }
+        ensures asked { self.new.asked ≡ self.old.asked }
         ensures stopped { self.new.stopped.now ≡ self.old.stopped.now }
         ensures kept { Keeps (O.contents self.old.out.now) (O.contents self.new.out.now) }
         ensures ends { IfErr result (λ why. is_end why ≡ false) }
-        ensures quiet { IsQuiet self.old.options self.old.shown self.new.shown (E.contents self.old.err.now) (E.contents self.new.err.now) }
+        ensures quiet { IsQuiet self.old.asked self.old.shown self.new.shown (E.contents self.old.err.now) (E.contents self.new.err.now) }
     {
         let Some(killed) = killed_in(answer) else {
             return Ok(());
         };
-        if !self.options.explain {
+        if !self.asked.options.explain {
             return Ok(());
         }
         match self.say_kill(step, killed) {
@@ -343,7 +348,7 @@ impl<'o, 'e, 's, 'l, 't, 'b, 'g, 'p, 'f, O: Write, E: Write> Printer<
     fn say_kill(&mut self, step: usize, killed: Killed) -> io::Result<bool>
         ensures out { self.new.out ≡ self.old.out }
         ensures err { self.new.err ≡ self.old.err }
-        ensures options { self.new.options ≡ self.old.options }
+        ensures asked { self.new.asked ≡ self.old.asked }
         ensures stopped { self.new.stopped.now ≡ self.old.stopped.now }
         ensures shown { self.new.shown ≡ self.old.shown }
     {
@@ -364,13 +369,13 @@ impl<'o, 'e, 's, 'l, 't, 'b, 'g, 'p, 'f, O: Write, E: Write> Printer<
     fn serve(&mut self, step: usize, reply: &Reply) -> Result<(), Stopped>
         ensures out { self.new.out.ghost_name ≡ self.old.out.ghost_name }
         ensures err { self.new.err.ghost_name ≡ self.old.err.ghost_name }
-        ensures options { self.new.options ≡ self.old.options }
+        ensures asked { self.new.asked ≡ self.old.asked }
         ensures stopped { self.new.stopped.now ≡ self.old.stopped.now }
-        ensures whole { OnOk result (OutTakes self.old.options (O.contents self.old.out.now) (O.contents self.new.out.now) (reply.now ∷ [])) }
-        ensures start { OnErr result (OutBegins self.old.options (O.contents self.old.out.now) (O.contents self.new.out.now) (reply.now ∷ [])) }
-        ensures goes_on { OnOk result (GoesOn self.old.options (reply.now ∷ [])) }
-        ensures ends { IfErr result (λ why. is_end why ≡ true → EndsAt self.old.options (O.contents self.old.out.now) (O.contents self.new.out.now) (reply.now ∷ [])) }
-        ensures quiet { IsQuiet self.old.options self.old.shown self.new.shown (E.contents self.old.err.now) (E.contents self.new.err.now) }
+        ensures whole { OnOk result (OutTakes self.old.asked (O.contents self.old.out.now) (O.contents self.new.out.now) (reply.now ∷ [])) }
+        ensures start { OnErr result (OutBegins self.old.asked (O.contents self.old.out.now) (O.contents self.new.out.now) (reply.now ∷ [])) }
+        ensures goes_on { OnOk result (GoesOn self.old.asked (reply.now ∷ [])) }
+        ensures ends { IfErr result (λ why. is_end why ≡ true → EndsAt self.old.asked (O.contents self.old.out.now) (O.contents self.new.out.now) (reply.now ∷ [])) }
+        ensures quiet { IsQuiet self.old.asked self.old.shown self.new.shown (E.contents self.old.err.now) (E.contents self.new.err.now) }
     {
         match self.write(step, reply) {
             Ok(()) => {}
@@ -380,10 +385,10 @@ impl<'o, 'e, 's, 'l, 't, 'b, 'g, 'p, 'f, O: Write, E: Write> Printer<
             Some(word) => self.heed(step, reply.actor, word)?,
             None => self.tell_kill(step, &reply.answer)?,
         }
-        if self.options.progress {
+        if self.asked.options.progress {
             self.show(step);
         }
-        if self.options.progress_lines {
+        if self.asked.options.progress_lines {
             self.tell_progress(step);
         }
         Ok(())
@@ -407,19 +412,19 @@ impl<'o, 'e, 's, 'l, 't, 'b, 'g, 'p, 'f, O: Write, E: Write> Printer<
         ensures err { self.new.err.ghost_name ≡ self.old.err.ghost_name }
         ensures kept { Keeps (O.contents self.old.out.now) (O.contents self.new.out.now) }
         ensures ends { IfErr result (λ why. is_end why ≡ true → is_ended self.old.stopped.now ≡ true) }
-        ensures quiet { speaks self.old.options ≡ false → self.old.shown ≡ None → E.contents self.new.err.now ≡ E.contents self.old.err.now }
+        ensures quiet { speaks self.old.asked.options ≡ false → self.old.shown ≡ None → E.contents self.new.err.now ≡ E.contents self.old.err.now }
     {
         self.hide();
         // The answers that the writer still has come before any message, even if the writer took no more.
         let flushed = self.out.flush();
         let stopped = self.stopped.take();
-        if moved.is_none() && self.options.progress {
+        if moved.is_none() && self.asked.options.progress {
             self.leave_shown();
         }
         if moved.is_some() {
             self.done = self.source.schedule.len();
         }
-        if self.options.summary {
+        if self.asked.options.summary {
             self.sum_up(moved);
         }
         if self.tells_failed() {
@@ -427,7 +432,7 @@ impl<'o, 'e, 's, 'l, 't, 'b, 'g, 'p, 'f, O: Write, E: Write> Printer<
             let lines = self.line_done();
             // Nothing depends on them.
             let _ = tally.write_failed(self.err, lines);
-            if self.options.quiet {
+            if self.asked.options.quiet {
                 let _ = tally.write_late(self.err);
             }
         }
@@ -436,12 +441,12 @@ impl<'o, 'e, 's, 'l, 't, 'b, 'g, 'p, 'f, O: Write, E: Write> Printer<
 
     /// Whether a line says how many lines failed.
     fn tells_failed(&self) -> bool
-        ensures { speaks self.now.options ≡ false → result ≡ false }
+        ensures { speaks self.now.asked.options ≡ false → result ≡ false }
     {
-        !self.options.strict
-            && (self.options.refusals
-                || self.options.summary
-                || (self.options.explain && self.tally.times(TRACE_FULL) > 1))
+        !self.asked.options.strict
+            && (self.asked.options.refusals
+                || self.asked.options.summary
+                || (self.asked.options.explain && self.tally.times(TRACE_FULL) > 1))
     }
 
     /// Writes what an audit of the run says, if it is asked for.
@@ -449,13 +454,13 @@ impl<'o, 'e, 's, 'l, 't, 'b, 'g, 'p, 'f, O: Write, E: Write> Printer<
         requires { Passes (first_of (reverse trace.now.entries)) (reverse trace.now.entries) }
         ensures out { self.new.out.ghost_name ≡ self.old.out.ghost_name }
         ensures err { self.new.err.ghost_name ≡ self.old.err.ghost_name }
-        ensures options { self.new.options ≡ self.old.options }
+        ensures asked { self.new.asked ≡ self.old.asked }
         ensures stopped { self.new.stopped.now ≡ self.old.stopped.now }
-        ensures whole { OnOk result (Appends (O.contents self.old.out.now) (O.contents self.new.out.now) (behind_answers self.old.options)) }
-        ensures start { AppendsStart (O.contents self.old.out.now) (O.contents self.new.out.now) (behind_answers self.old.options) }
-        ensures quiet { IsQuiet self.old.options self.old.shown self.new.shown (E.contents self.old.err.now) (E.contents self.new.err.now) }
+        ensures whole { OnOk result (Appends (O.contents self.old.out.now) (O.contents self.new.out.now) (behind_answers self.old.asked.options)) }
+        ensures start { AppendsStart (O.contents self.old.out.now) (O.contents self.new.out.now) (behind_answers self.old.asked.options) }
+        ensures quiet { IsQuiet self.old.asked self.old.shown self.new.shown (E.contents self.old.err.now) (E.contents self.new.err.now) }
     {
-        if !self.options.audit {
+        if !self.asked.options.audit {
             return Ok(());
         }
         self.hide();
@@ -472,11 +477,11 @@ impl<'o, 'e, 's, 'l, 't, 'b, 'g, 'p, 'f, O: Write, E: Write> Printer<
         requires { IfOk ran.now (λ trace. Passes (first_of (reverse trace.entries)) (reverse trace.entries)) }
         ensures out { self.new.out.ghost_name ≡ self.old.out.ghost_name }
         ensures err { self.new.err.ghost_name ≡ self.old.err.ghost_name }
-        ensures whole { OnOk ran.now (OnOk result (Appends (O.contents self.old.out.now) (O.contents self.new.out.now) (behind_answers self.old.options))) }
-        ensures short { OnOk ran.now (AppendsStart (O.contents self.old.out.now) (O.contents self.new.out.now) (behind_answers self.old.options)) }
+        ensures whole { OnOk ran.now (OnOk result (Appends (O.contents self.old.out.now) (O.contents self.new.out.now) (behind_answers self.old.asked.options))) }
+        ensures short { OnOk ran.now (AppendsStart (O.contents self.old.out.now) (O.contents self.new.out.now) (behind_answers self.old.asked.options)) }
         ensures kept { OnErr ran.now (Keeps (O.contents self.old.out.now) (O.contents self.new.out.now)) }
         ensures ends { IfErr result (λ why. is_end why ≡ true → is_ended self.old.stopped.now ≡ true) }
-        ensures quiet { speaks self.old.options ≡ false → self.old.shown ≡ None → E.contents self.new.err.now ≡ E.contents self.old.err.now }
+        ensures quiet { speaks self.old.asked.options ≡ false → self.old.shown ≡ None → E.contents self.new.err.now ≡ E.contents self.old.err.now }
     {
         let told = match ran {
             Ok(trace) => self.tell_audit(trace),
@@ -501,7 +506,7 @@ impl<'o, 'e, 's, 'l, 't, 'b, 'g, 'p, 'f, O: Write, E: Write> Printer<
             moved,
         };
         // Nothing depends on it.
-        let _ = summary.write(self.err, self.options.amounts, self.observed);
+        let _ = summary.write(self.err, self.asked.options.amounts, self.observed);
     }
 }
 
@@ -611,13 +616,14 @@ pub fn print_run<D: BlockDevice, O: Write, E: Write>(
         swap: config.swap,
         calls: Calls::default(),
     };
+    let page_size = config.page_size;
     let mut text = String::new(alloc);
     let mut begun = Begun::new(alloc);
     let mut stopped = None;
     let mut printer = Printer {
         out,
         err,
-        options,
+        asked: Printing { options, page_size },
         source,
         texts: Texts { lines: &lines },
         text: &mut text,
@@ -652,16 +658,16 @@ fn moved_by(ran: &Result<Trace, Stop>, written: Calls) -> Option<Moved> {
 impl<'o, 'e, 's, 'l, 't, 'b, 'g, 'p, 'f, O: Write, E: Write> Sink
     for Printer<'o, 'e, 's, 'l, 't, 'b, 'g, 'p, 'f, O, E> {
     // What both writers got, and when a strict run continues. Both stay the same writers.
-    ghost took = { λ a b xs. (b.out.ghost_name ≡ a.out.ghost_name) × (b.err.ghost_name ≡ a.err.ghost_name) × (b.options ≡ a.options)
-        × OutTakes a.options (O.contents a.out.now) (O.contents b.out.now) xs
-        × IsQuiet a.options a.shown b.shown (E.contents a.err.now) (E.contents b.err.now)
+    ghost took = { λ a b xs. (b.out.ghost_name ≡ a.out.ghost_name) × (b.err.ghost_name ≡ a.err.ghost_name) × (b.asked ≡ a.asked)
+        × OutTakes a.asked (O.contents a.out.now) (O.contents b.out.now) xs
+        × IsQuiet a.asked a.shown b.shown (E.contents a.err.now) (E.contents b.err.now)
         × (b.stopped.now ≡ a.stopped.now)
-        × GoesOn a.options xs };
+        × GoesOn a.asked xs };
 
-    ghost failed = { λ a b begun. (b.out.ghost_name ≡ a.out.ghost_name) × (b.err.ghost_name ≡ a.err.ghost_name) × (b.options ≡ a.options)
-        × OutBegins a.options (O.contents a.out.now) (O.contents b.out.now) begun
-        × IsQuiet a.options a.shown b.shown (E.contents a.err.now) (E.contents b.err.now)
-        × (is_ended b.stopped.now ≡ true → (is_ended a.stopped.now ≡ true) ⊎ EndsAt a.options (O.contents a.out.now) (O.contents b.out.now) begun) };
+    ghost failed = { λ a b begun. (b.out.ghost_name ≡ a.out.ghost_name) × (b.err.ghost_name ≡ a.err.ghost_name) × (b.asked ≡ a.asked)
+        × OutBegins a.asked (O.contents a.out.now) (O.contents b.out.now) begun
+        × IsQuiet a.asked a.shown b.shown (E.contents a.err.now) (E.contents b.err.now)
+        × (is_ended b.stopped.now ≡ true → (is_ended a.stopped.now ≡ true) ⊎ EndsAt a.asked (O.contents a.out.now) (O.contents b.out.now) begun) };
 
     ghost saw = { λ a b pasts. Unit {0} };
 
@@ -678,19 +684,19 @@ impl<'o, 'e, 's, 'l, 't, 'b, 'g, 'p, 'f, O: Write, E: Write> Sink
     }
 
     fn look(&mut self, _step: usize, book: &Book) {
-        if self.options.summary {
+        if self.asked.options.summary {
             self.observed.look(book);
         }
     }
 
     fn see_relief(&mut self, _step: usize, book: &Book, cause: Cause) {
-        if self.options.tells_kills() {
+        if self.asked.options.tells_kills() {
             self.observed.see_relief(book, cause);
         }
     }
 
     fn see_failure(&mut self, _step: usize, book: &Book, call: FailedCall) {
-        if self.options.tells_reasons() {
+        if self.asked.options.tells_reasons() {
             self.observed.see_failure(book, call);
         }
     }
@@ -698,19 +704,19 @@ impl<'o, 'e, 's, 'l, 't, 'b, 'g, 'p, 'f, O: Write, E: Write> Sink
     ghost use Rattle.std.proofs.Common.{refl, ◌∙◌, inl};
     ghost use Rattle.printer.specs.SinkLaws.{out_takes-nil, out_takes-more, out_begins-nil, quiet-refl, quiet-more, goes_on-nil, goes_on-more};
 
-    ghost nothing = { λ s. (refl, refl, refl, out_takes-nil s.options (O.contents s.out.now), quiet-refl s.options s.shown (E.contents s.err.now), refl, goes_on-nil s.options) };
+    ghost nothing = { λ s. (refl, refl, refl, out_takes-nil s.asked (O.contents s.out.now), quiet-refl s.asked s.shown (E.contents s.err.now), refl, goes_on-nil s.asked) };
 
     ghost more = { λ a b c xs ys first second. (
       second.0 ∙ first.0,
       second.1 ∙ first.1,
       second.2 ∙ first.2,
-      out_takes-more a.options b.options first.2 (O.contents a.out.now) (O.contents b.out.now) (O.contents c.out.now) xs ys first.3 second.3,
-      quiet-more a.options b.options first.2 a.shown b.shown c.shown (E.contents a.err.now) (E.contents b.err.now) (E.contents c.err.now) first.4 second.4,
+      out_takes-more a.asked b.asked first.2 (O.contents a.out.now) (O.contents b.out.now) (O.contents c.out.now) xs ys first.3 second.3,
+      quiet-more a.asked b.asked first.2 a.shown b.shown c.shown (E.contents a.err.now) (E.contents b.err.now) (E.contents c.err.now) first.4 second.4,
       second.5 ∙ first.5,
-      goes_on-more a.options b.options first.2 xs ys first.6 second.6,
+      goes_on-more a.asked b.asked first.2 xs ys first.6 second.6,
     ) };
 
-    ghost stays = { λ s. (refl, refl, refl, out_begins-nil s.options (O.contents s.out.now), quiet-refl s.options s.shown (E.contents s.err.now), λ ended. inl ended) };
+    ghost stays = { λ s. (refl, refl, refl, out_begins-nil s.asked (O.contents s.out.now), quiet-refl s.asked s.shown (E.contents s.err.now), λ ended. inl ended) };
 
     ghost unseen = { λ s. tt };
 

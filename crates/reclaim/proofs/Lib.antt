@@ -1,3 +1,5 @@
 pub mod WalkLemmas
+pub mod PreorderOnce
+pub mod OnceLemmas
 pub mod PassLemmas
 pub mod TurnLemmas

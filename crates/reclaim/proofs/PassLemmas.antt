@@ -185,6 +185,19 @@ module _ (parts : Bool) (tree : List Node) (old gives : ℕ → Bool) (target : 
       found ∙ sym (none_first (served_by parts tree old target cursor) (served_by parts tree gives target cursor) (ap is_some (sym none_found) ∙ same_some group ∙ none))
       ∙ ap (λ b. served_first b parts tree old gives target cursor) (sym is)
 
+-- a group that the first pass does not ask is served by the second one
+pub served-by-all : (parts : Bool) (tree : List Node) (old gives : ℕ → Bool) (target : ℕ) (cursor : Cursor) (heeds : Bool) (g : ℕ) → (heeds ≡ true → old g ≡ false) → served_first heeds parts tree old gives target cursor ≡ Some g
+    → served_by parts tree gives target cursor ≡ Some g
+served-by-all parts tree old gives target cursor false g unasked serves = serves
+served-by-all parts tree old gives target cursor true g unasked serves = by_front (served_by parts tree old target cursor) refl serves
+  where
+    by_front : (front : Option ℕ) → served_by parts tree old target cursor ≡ front → option_or front (served_by parts tree gives target cursor) ≡ Some g → served_by parts tree gives target cursor ≡ Some g
+    by_front None is later = later
+    by_front (Some h) is here =
+        let same : h ≡ g = cc in
+        let passes = (found-passes (λ a. Unit {0}) old (asking_order parts tree target cursor) h (λ k d lt. tt) is).1 in
+        absurd (let wrong : true ≡ false = sym passes ∙ ap old same ∙ unasked refl in cc)
+
 -- whether a group is asked: those without an old file are not, in a pass that asks for one
 pub unasked : (sc : ScanControl) (old_files low_reclaim has : Bool) (g : ℕ) → has ≡ has_old_file (seen_at g sc.gens.now sc.marks.now) → (old_files && not has) ≡ true → asked_by sc old_files low_reclaim g ≡ false
 unasked sc true low_reclaim true g is e = absurd cc
@@ -194,6 +207,10 @@ unasked sc true low_reclaim false g is e = rw (sym is) (and_false (gives_by sc l
     and_false true = refl
     and_false false = refl
 unasked sc false low_reclaim has g is e = absurd cc
+
+-- so the first pass does not ask a group without an old file
+pub unasked-here : (sc : ScanControl) (low_reclaim : Bool) (g : ℕ) → sc.heeds_age ≡ true → not (sc.heeds_age && has_old_file (seen_at g sc.gens.now sc.marks.now)) ≡ true → asked_by sc true low_reclaim g ≡ false
+unasked-here sc low_reclaim g heeds all = unasked sc true low_reclaim (has_old_file (seen_at g sc.gens.now sc.marks.now)) g refl (ap (λ b. not (b && has_old_file (seen_at g sc.gens.now sc.marks.now))) (sym heeds) ∙ all)
 
 -- ---- one gives a page wherever one has a page to give
 

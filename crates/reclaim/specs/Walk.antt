@@ -1,5 +1,6 @@
 -- The two parts of a pass, as it walks. No public clause cites this.
 use Rattle.std.specs.Prelude.{◌≡◌, ℕ, ◌==◌, Bool, true, false, if◌then◌else◌, List, [], ◌∷◌, find, All, Option, Some, None}
+use Rattle.std.specs.List.{list_any}
 use Rattle.machine.specs.Order.{round_from, place_in}
 use Rattle.machine.specs.Tree.{Node, is_live, under, preorder}
 use Rattle.group_tree.specs.Walk.{behind}
@@ -30,3 +31,8 @@ ones (Some g) = g ∷ []
 -- all are live, and at or below the target
 abbrev pub AreAsked : List Node → ℕ → List ℕ → Type 0
 AreAsked tree target gs = All (λ g. (is_live tree g ≡ true) × (under tree target g ≡ true)) gs
+
+-- no number is twice in the list
+abbrev pub IsOnce : List ℕ → Type 0
+IsOnce [] = Unit {0}
+IsOnce (g ∷ gs) = (list_any (λ a. a == g) gs ≡ false) × IsOnce gs

@@ -40,8 +40,8 @@ impl Cursor {
         }
     }
 
-    /// The group gives the first page of its turn. In all it gives as many pages as it has units, to the
-    /// nearest, and at most a fourth of its pages, rounded up.
+    /// The group gives the first page of its turn. The number of pages in a turn is the group's size divided
+    /// by the unit, rounded to the nearest number. It is at most a fourth of the group's pages, rounded up.
     pub fn begin(group: GroupId, size: u64, unit: u64) -> Cursor
         requires { 0 < unit }
         ensures { cursor_of result ≡ new_turn group.0 size unit }

@@ -2,8 +2,7 @@
 
 ghost use Rattle.std.specs.Prelude.{◌≡◌, ◌+◌, ◌<◌, ◌≤◌, ◌++◌, ◌∷◌, [], true, false, length, slice_set, Some, IfSome, IfNone, IfOk, OnOk, OnErr, IsOk};
 ghost use Rattle.machine.specs.Order.{served_first, no_cursor, cursor_at};
-ghost use Rattle.machine.specs.Tree.{is_live, under};
-ghost use Rattle.reclaim.specs.Pass.{gives_by, asked_by, cursor_by, IsGiver, GivesNone};
+ghost use Rattle.reclaim.specs.Pass.{gives_by, asked_by, in_second, cursor_by, IsGiver, GivesNone};
 
 use crate::cursor::Cursor;
 use crate::scan_control::ScanControl;
@@ -127,15 +126,16 @@ impl Cursors {
         })
     }
 
-    /// The reclaim evicts a page of the group, and the target's cursor moves to the group. If the reclaim takes
-    /// parts, the group's turn goes on or begins. Allocates no memory.
+    /// The reclaim evicts a page of the group that [`Cursors::next_group`] finds. The target's cursor moves to
+    /// the group. If the reclaim takes parts, the group's turn goes on or begins. Allocates no memory.
     pub fn serve(&mut self, scan: ScanControl<'_, '_, '_>, group: GroupId)
         requires cursor { scan.protection.target.0 < length self.old.cursors }
-        requires live { is_live scan.protection.tree.now group.0 ≡ true }
-        requires under { under scan.protection.tree.now scan.protection.target.0 group.0 ≡ true }
+        // It is the next group in the order of the pass that finds it.
+        requires served { served_first scan.heeds_age scan.takes_parts scan.protection.tree.now (asked_by scan true (in_second scan group.0)) (gives_by scan (in_second scan group.0)) scan.protection.target.0 (cursor_at self.old.cursors scan.protection.target.0) ≡ Some group.0 }
         ensures cursors { self.new.cursors ≡ slice_set self.old.cursors scan.entry.protection.target.0 (cursor_by scan.entry (cursor_at self.old.cursors scan.entry.protection.target.0) group.0) }
         ensures room { self.new.room ≡ self.old.room }
     {
+        scan.protection.tree.groups_form_a_tree();
         let target = scan.protection.target.0 as usize;
         self.turns[target] = scan.turn_after(self.turns[target], group);
     }

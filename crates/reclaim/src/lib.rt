@@ -8,10 +8,11 @@
 //!    that group. Therefore no group whose pages it may evict loses a second page before each of the
 //!    others had its turn. If no group was served yet, or if that group was removed, the pass
 //!    begins at the target.
-//! 3. If the reclaim takes parts, a group gives more than one page in its turn: as many as its size has
-//!    units, to the nearest, and at most a fourth of its pages. The unit is the size of the least group that
-//!    has one to give, and at least a sixteenth of the greatest. It is set when a round begins, which is when
-//!    the walk is back at the target. A group that has no page to give ends its turn.
+//! 3. If the reclaim takes parts, a group can give more than one page in its turn. The number of pages is its
+//!    size divided by the unit, rounded to the nearest number. It is at most a fourth of the group's pages.
+//!    The unit is the size of the smallest group that has a page to give, and at least a sixteenth of the
+//!    size of the largest. It is set when a round begins, which is when the walk is back at the target. If a
+//!    group has no page to give, its turn ends.
 //! 4. A pass skips a group while its `memory.min` protects it from a reclaim of the target, or if
 //!    it has no reclaimable page. The first pass also skips the groups that their `memory.low` protects.
 //!    A second pass visits these too, if the first finds no group. Both begin after the group that

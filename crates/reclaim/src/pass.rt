@@ -106,6 +106,7 @@ impl<'t, 'c, 'g> ScanControl<'t, 'c, 'g> {
     }
 
     /// Whether the pass asks the group, and the group has a page to give.
+    #[inline(always)]
     fn asks(self, old_files: bool, low_reclaim: bool, group: GroupId) -> bool
         requires live { is_live self.protection.tree.now group.0 ≡ true }
         requires under { under self.protection.tree.now self.protection.target.0 group.0 ≡ true }
@@ -118,6 +119,7 @@ impl<'t, 'c, 'g> ScanControl<'t, 'c, 'g> {
     }
 
     /// Whether the target can evict a page of the group.
+    #[inline(always)]
     pub(crate) fn gives(self, low_reclaim: bool, group: GroupId) -> bool
         requires live { is_live self.protection.tree.now group.0 ≡ true }
         requires under { under self.protection.tree.now self.protection.target.0 group.0 ≡ true }

@@ -1,16 +1,20 @@
 //! The turns of groups, if a reclaim takes parts.
 
-ghost use Rattle.std.specs.Prelude.{◌≡◌, ◌<◌, true, IfSome};
-ghost use Rattle.machine.specs.Order.{in_turn, is_behind, least_of, greatest_of, round_unit};
+ghost use Rattle.std.specs.Prelude.{◌≡◌, ◌<◌, ◌==◌, ◌&&◌, not, true, false, Some, IfSome};
+ghost use Rattle.std.specs.List.{list_any};
+ghost use Rattle.machine.specs.Order.{in_turn, served_first, is_behind, least_of, greatest_of, round_unit};
 ghost use Rattle.machine.specs.Tree.{is_live, under, preorder};
+ghost use Rattle.machine.specs.Eviction.{has_old_file};
+ghost use Rattle.aging.specs.Groups.{seen_at};
 ghost use Rattle.page_counter.specs.Counts.{usage_of};
 ghost use Rattle.group_tree.specs.Tables.{number};
 ghost use Rattle.reclaim.specs.Cursors.{cursor_of};
-ghost use Rattle.reclaim.specs.Pass.{gives_by, in_second, cursor_by};
+ghost use Rattle.reclaim.specs.Pass.{gives_by, asked_by, in_second, cursor_by};
 ghost use Rattle.reclaim.specs.Walk.{ones};
 
 use crate::cursor::Cursor;
 use crate::scan_control::ScanControl;
+use eviction::has_old_file;
 use machine::id::GroupId;
 use machine::record::Guard;
 
@@ -33,10 +37,11 @@ impl<'t, 'c, 'g> ScanControl<'t, 'c, 'g> {
         }
     }
 
-    /// Whose turn it is, once the group has given a page.
+    /// Whose turn it is, once the group that the passes serve has given a page.
     pub(crate) fn turn_after(self, turn: Cursor, group: GroupId) -> Cursor
         requires live { is_live self.protection.tree.now group.0 ≡ true }
         requires under { under self.protection.tree.now self.protection.target.0 group.0 ≡ true }
+        requires served { served_first self.heeds_age self.takes_parts self.protection.tree.now (asked_by self true (in_second self group.0)) (gives_by self (in_second self group.0)) self.protection.target.0 (cursor_of turn) ≡ Some group.0 }
         ensures { cursor_of result ≡ cursor_by self.entry (cursor_of turn) group.0 }
     {
         if !self.takes_parts {
@@ -58,27 +63,46 @@ impl<'t, 'c, 'g> ScanControl<'t, 'c, 'g> {
     fn round_unit(self, turn: Cursor, group: GroupId) -> u64
         requires live { is_live self.protection.tree.now group.0 ≡ true }
         requires under { under self.protection.tree.now self.protection.target.0 group.0 ≡ true }
+        requires served { served_first self.heeds_age self.takes_parts self.protection.tree.now (asked_by self true (in_second self group.0)) (gives_by self (in_second self group.0)) self.protection.target.0 (cursor_of turn) ≡ Some group.0 }
+        requires begins { list_any (λ a. a == group.0) (in_turn self.takes_parts self.protection.tree.now self.protection.target.0 (cursor_of turn)) ≡ false }
         ensures unit { result ≡ round_unit self.entry.protection.tree.now (gives_by self.entry (in_second self.entry group.0)) (usage_of self.entry.protection.counters.now) self.entry.protection.target.0 (cursor_of turn) group.0 }
         ensures some { 0 < result }
     {
+        self.protection.tree.groups_form_a_tree();
+        let size = self.protection.counters.usage(group);
+        // The pass asked all other groups before it came back to this one, and none has a page to give.
+        if turn.group == Some(group) && self.asks_all(group) {
+            return size.max(1);
+        }
         if turn.unit > 0 && self.is_behind(turn.group, group) {
             return turn.unit;
         }
         let low_reclaim = self.protection.is_protected(Guard::Low, group);
-        let (least, greatest) = self.sizes_given(
-            low_reclaim,
-            self.protection.counters.usage(group),
-        );
+        let (least, greatest) = self.sizes_given(low_reclaim, size);
         1.max(least.max(greatest / 16))
     }
 
-    /// Whether the group stands behind the one that was served last.
+    /// Whether the pass that serves the group asks all groups with a page to give. If age is heeded, the first
+    /// pass asks only those with an old page of a file.
+    fn asks_all(self, group: GroupId) -> bool
+        requires live { is_live self.protection.tree.now group.0 ≡ true }
+        ensures { result ≡ not (self.entry.heeds_age && has_old_file (seen_at group.0 self.entry.gens.now self.entry.marks.now)) }
+    {
+        !self.heeds_age || !has_old_file(self.gens, self.marks, group)
+    }
+
+    /// Whether the group comes after the one that was served last, in the order of a walk from the target.
     fn is_behind(self, last: Option<GroupId>, group: GroupId) -> bool
         ensures { result ≡ is_behind self.entry.protection.tree.now self.entry.protection.target.0 (number last) group.0 }
     {
+        self.protection.tree.groups_form_a_tree();
         let Some(last) = last else {
             return false;
         };
+        // A walk comes to each group once.
+        if last == group {
+            return false;
+        }
         for other in self
             .protection
             .tree

@@ -1,6 +1,8 @@
 //! Numbers and sizes of scenarios, as people read them.
 #![tactic(auto)]
 
+ghost use Rattle.std.specs.Prelude.{◌≡◌, ◌-◌, ◌*◌, ◌^◌, min};
+
 use drafts::Draft;
 use scenario_words::amount::PageSize;
 
@@ -71,8 +73,10 @@ fn tenths(bytes: u64) -> u64 {
     }
 }
 
-/// Bytes of so many pages.
-pub fn bytes_of(page: PageSize, pages: u64) -> u64 {
+/// Bytes of so many pages, or 2^64 - 1 if they have more.
+pub fn bytes_of(page: PageSize, pages: u64) -> u64
+    ensures { result ≡ min (pages * page.bytes) (2 ^ 64 - 1) }
+{
     pages.saturating_mul(page.bytes)
 }
 

@@ -2,7 +2,7 @@
 
 use drafts::Draft;
 use scenario_amounts::{add_number, bytes_of};
-use scenario_words::amount::{PageSize, Purpose};
+use scenario_words::amount::{PageSize, Purpose, pages_for};
 use scenario_words::header::Header;
 use scenario_words::word::Filled;
 use scenarios::sizes::{Size, read_size};
@@ -80,7 +80,7 @@ fn bytes_in(size: Size, page: PageSize) -> u64 {
 
 /// The size of a page.
 fn add_page(text: &mut Draft, size: Size) {
-    let bytes = bytes_in(size, PageSize::of_script());
+    let bytes = bytes_in(size, PageSize::of_4k());
     let page = page_for(bytes, 1).unwrap_or(1 << 26);
     text.text("not the size of a page; write ");
     add_bytes(text, page);
@@ -161,7 +161,7 @@ fn add_bound(text: &mut Draft, header: &Header, words: &[Filled], word: &Filled)
     };
     if first == "page" {
         add_page(text, size);
-    } else if page.pages_of(size, purpose_of(first)) == 0 {
+    } else if pages_for(purpose_of(first), size, page) == 0 {
         text.text("less than a page; write at least ");
         add_bytes(text, page.bytes);
     } else if first == "memory" || first == "swap" {

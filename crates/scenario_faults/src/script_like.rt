@@ -24,8 +24,7 @@ const OF_SCRIPTS: [&str; 10] = [
 ];
 
 /// Words that begin a line of a scenario, and no line of a script.
-const OF_SCENARIOS: [&str; 10] = [
-    "page",
+const OF_SCENARIOS: [&str; 9] = [
     "memory",
     "placement",
     "protection",

@@ -7,7 +7,7 @@ ghost use Rattle.scenarios.specs.Parts.{halves};
 ghost use Rattle.scenario_lines.specs.Rounding.{is_of, same_purpose, text_noted, word_noted, halves_noted, part_noted, value_noted, values_noted, condition_noted, file_noted, amount_noted, task_noted, both_noted, other_noted, sizes_noted};
 
 use machine::text::Text;
-use scenario_words::amount::{PageSize, Purpose};
+use scenario_words::amount::{PageSize, Purpose, pages_for};
 use scenario_words::paths::is_path;
 use scenario_words::word::{Filled, is_at, is_language};
 use scenarios::sizes::read_size;
@@ -79,7 +79,7 @@ fn add_text(
         column: word.column,
         purpose,
         text: Text::new(String::from_str(alloc, text)?),
-        pages: page.pages_of(size, purpose),
+        pages: pages_for(purpose, size, page),
     })?;
     Ok(())
 }

@@ -1,2 +1,4 @@
 mod ConfirmingLemmas
 mod PlainLemmas
+mod TaskLemmas
+mod VerdictLemmas

@@ -1,2 +1,4 @@
 pub mod Confirming
 pub mod Faulty
+pub mod Tasks
+pub mod Verdicts

@@ -7,6 +7,7 @@ ghost use Rattle.scenario_words.specs.Header.{machine_of};
 ghost use Rattle.scenario_reports.specs.Faulty.{file_line, one_line, IsNoLine};
 
 use machine::config::{Config, File, FileList};
+use machine::page_size::PageSize;
 use machine::text::Text;
 use scenario_words::header::{DeviceCall, FileSize, Header};
 use scenario_words::names::Names;
@@ -42,6 +43,7 @@ pub fn config_of(alloc: Global, header: &Header, names: &Names) -> Result<Config
         turns: u32::MAX,
         recursive: header.recursive,
         placement: header.placement,
+        page_size: PageSize::of_4k(),
     })
 }
 

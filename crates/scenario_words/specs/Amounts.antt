@@ -1,6 +1,5 @@
 -- Sizes, numbers and parts that words are. A size that is no whole page is rounded.
 use Rattle.std.specs.Prelude.{◌≡◌, ℕ, ◌*◌, ◌^◌, Bool, ◌&&◌, Option, Some, None, Result, Ok, Err, nat_lt, nat_le, if◌then◌else◌}
-use Rattle.std.specs.Int.{is_power_of_two}
 use Rattle.machine.specs.Numbers.{number_below}
 use Rattle.scenarios.specs.declared.parts.Part.{Part}
 use Rattle.scenarios.specs.declared.sizes.Size.{Size}
@@ -22,10 +21,6 @@ abbrev pub TakesNoMemory : {T : Type 0} → Result T ExpandError → Type 0
 TakesNoMemory (Ok x) = Unit {0}
 TakesNoMemory (Err error.Memory) = ⊥
 TakesNoMemory (Err (error.Faulty f)) = Unit {0}
-
--- a page may have so many bytes: 4K times a power of two, at most 64M
-abbrev pub is_page_size : ℕ → Bool
-is_page_size bytes = nat_le 4096 bytes && nat_le bytes 67108864 && is_power_of_two bytes
 
 -- memory that is used is rounded up, and a bound is rounded down
 abbrev pub rounded : Purpose → Size → ℕ → ℕ

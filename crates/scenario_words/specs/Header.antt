@@ -16,7 +16,8 @@ use Rattle.scenario_words.specs.declared.header.DeviceCall.TheVariants as call
 use Rattle.scenario_words.specs.declared.header.Failing.{Failing}
 use Rattle.scenario_words.specs.declared.header.FileSize.{FileSize}
 use Rattle.scenario_words.specs.declared.header.Header.{Header}
-use Rattle.scenario_words.specs.Amounts.{is_page_size, size_in, pages_of, pages_within, number_within}
+use Rattle.machine.specs.Amounts.{is_page_size}
+use Rattle.scenario_words.specs.Amounts.{size_in, pages_of, pages_within, number_within}
 use Rattle.scenario_words.specs.Faults.{◌>>=◌}
 use Rattle.scenario_words.specs.Names.{mentioned}
 use Rattle.scenario_words.specs.Paths.{is_group_name}

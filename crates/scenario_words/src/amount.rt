@@ -1,24 +1,16 @@
 //! Sizes of words, in pages of the scenario.
 
-ghost use Rattle.std.specs.Prelude.{◌≡◌, ◌<◌, ◌≤◌, ◌^◌, Some, None, IfOk, if◌then◌else◌};
-ghost use Rattle.std.specs.Option.{option_map};
+ghost use Rattle.std.specs.Prelude.{◌≡◌, ◌≤◌, IfOk};
 ghost use Rattle.scenarios.specs.Sizes.{in_millionths};
-ghost use Rattle.scenario_words.specs.Amounts.{TakesNoMemory, is_page_size, rounded, part_pages, some_pages, size_in, pages_of, pages_within, part_within, number_within};
+ghost use Rattle.scenario_words.specs.Amounts.{TakesNoMemory, rounded, part_pages, some_pages, size_in, pages_of, pages_within, part_within, number_within};
 ghost use Rattle.scenario_words.specs.Faults.{Gives};
 
 use crate::fault::{Cause, ExpandError};
 use crate::word::Filled;
+pub use machine::page_size::PageSize;
 use scenarios::parts::{Part, read_part};
 use scenarios::sizes::{Size, read_size};
 use text_forms::number::long_number_of;
-
-/// The bytes of a page: 4K, 8K, 16K .. or 64M.
-#[derive(Clone, Copy)]
-pub struct PageSize {
-    pub bytes: u64,
-    pub ghost some: { 1 < bytes },
-    pub ghost most: { bytes ≤ 2 ^ 26 },
-}
 
 /// What a size is for.
 #[derive(Clone, Copy, Debug, PartialEq, Eq)]
@@ -29,55 +21,35 @@ pub enum Purpose {
     Bound,
 }
 
-impl PageSize {
-    /// A page of a script.
-    pub fn of_script() -> PageSize
-        ensures { result.bytes ≡ 4096 }
-    {
-        PageSize { bytes: 4096 }
+/// How many pages a size is. A fraction of a page is rounded up if the size is used, and down if it is a bound.
+pub fn pages_for(purpose: Purpose, size: Size, page: PageSize) -> u64
+    ensures { result ≡ rounded purpose size page.bytes }
+{
+    match purpose {
+        Purpose::Used => size.pages_up(page.bytes),
+        Purpose::Bound => size.pages_down(page.bytes),
     }
+}
 
-    /// The page of so many bytes, if one can have them.
-    pub fn new(bytes: u64) -> Option<PageSize>
-        ensures { option_map (λ page. page.bytes) result ≡ (if is_page_size bytes then Some bytes else None) }
-    {
-        if 4096 <= bytes && bytes <= 67_108_864 && bytes.is_power_of_two() {
-            Some(PageSize { bytes })
-        } else {
-            None
+/// The first page of a part, and the page after its last one.
+fn part_pages(part: Part, page: PageSize) -> (u64, u64)
+    ensures { result ≡ part_pages part page.bytes }
+{
+    (
+        pages_for(Purpose::Bound, part.from, page),
+        pages_for(Purpose::Used, part.to, page),
+    )
+}
+
+/// Millionths of a byte that a size is.
+fn in_millionths(size: Size, page: PageSize) -> u128
+    ensures { result ≡ in_millionths size page.bytes }
+{
+    match size {
+        Size::Bytes { whole, millionths } => {
+            u128::from(whole) * 1_000_000 + u128::from(millionths)
         }
-    }
-
-    /// How many pages a size is. A fraction of a page is rounded up if the size is used, and down if it is a bound.
-    pub fn pages_of(self, size: Size, purpose: Purpose) -> u64
-        ensures { result ≡ rounded purpose size self.bytes }
-    {
-        match purpose {
-            Purpose::Used => size.pages_up(self.bytes),
-            Purpose::Bound => size.pages_down(self.bytes),
-        }
-    }
-
-    /// The first page of a part, and the page after its last one.
-    fn part_pages(self, part: Part) -> (u64, u64)
-        ensures { result ≡ part_pages part self.bytes }
-    {
-        (
-            self.pages_of(part.from, Purpose::Bound),
-            self.pages_of(part.to, Purpose::Used),
-        )
-    }
-
-    /// Millionths of a byte that a size is.
-    fn millionths(self, size: Size) -> u128
-        ensures { result ≡ in_millionths size self.bytes }
-    {
-        match size {
-            Size::Bytes { whole, millionths } => {
-                u128::from(whole) * 1_000_000 + u128::from(millionths)
-            }
-            Size::Pages(pages) => u128::from(pages) * u128::from(self.bytes) * 1_000_000,
-        }
+        Size::Pages(pages) => u128::from(pages) * u128::from(page.bytes) * 1_000_000,
     }
 }
 
@@ -103,7 +75,7 @@ pub fn pages_of(word: &Filled, purpose: Purpose, page: PageSize) -> Result<u64, 
     ensures memory { TakesNoMemory result }
 {
     match size_of(word) {
-        Ok(size) => Ok(page.pages_of(size, purpose)),
+        Ok(size) => Ok(pages_for(purpose, size, page)),
         Err(error) => Err(error),
     }
 }
@@ -144,10 +116,10 @@ fn pages_of_part(
     ensures within { IfOk result (λ pages. (pages.0 ≤ pages.1) × (pages.1 ≤ most)) }
     ensures memory { TakesNoMemory result }
 {
-    if page.millionths(part.from) >= page.millionths(part.to) {
+    if in_millionths(part.from, page) >= in_millionths(part.to, page) {
         return Err(word.fault(Cause::EmptyPart));
     }
-    let (first, after) = page.part_pages(part);
+    let (first, after) = part_pages(part, page);
     if first <= after && after <= u64::from(most) {
         Ok((first as u32, after as u32))
     } else {

@@ -65,7 +65,7 @@ impl Header {
         ensures { machine_of result ≡ unsaid }
     {
         Header {
-            page: PageSize::of_script(),
+            page: PageSize::of_4k(),
             frames: MOST_FRAMES,
             swap: 0,
             watermarks: None,

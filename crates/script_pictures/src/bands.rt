@@ -7,7 +7,7 @@ use crate::refusals::{Triangles, draw_refusals};
 use crate::sheet::Sheet;
 use drafts::Draft;
 use pictures::{
-    BAND, LEFT, RIGHT, Size, add_escaped, add_last_part, add_length, degree, draw_key, draw_part,
+    BAND, LEFT, RIGHT, add_escaped, add_last_part, add_length, degree, draw_key, draw_part,
 };
 
 /// The most characters of a path that its band shows.
@@ -39,13 +39,21 @@ impl Columns<'_> {
     }
 
     /// Draws the name of a band's group at its right, and the size of a full band at its left.
-    fn draw_name(self, out: &mut Draft, group: usize, path: &str, band: u64, whole: u64) {
+    fn draw_name(
+        self,
+        out: &mut Draft,
+        sheet: Sheet,
+        group: usize,
+        path: &str,
+        band: u64,
+        whole: u64,
+    ) {
         let y = band.saturating_add(BAND / 2);
         out.text("<text");
         add_length(out, "x", LEFT.saturating_sub(60));
         add_length(out, "y", y);
         out.text(" dy=\"4\" text-anchor=\"end\">");
-        out.write_fmt(Size(whole));
+        out.write_fmt(sheet.size(whole));
         out.text("</text><text");
         add_length(out, "x", RIGHT.saturating_add(60));
         add_length(out, "y", y);
@@ -54,7 +62,7 @@ impl Columns<'_> {
         out.text("<title>");
         add_escaped(out, path);
         out.text(", peak ");
-        out.write_fmt(Size(peak_of(self.rows, group)));
+        out.write_fmt(sheet.size(peak_of(self.rows, group)));
         out.text("</title></text>\n");
     }
 
@@ -62,7 +70,7 @@ impl Columns<'_> {
     fn draw_names(self, out: &mut Draft, sheet: Sheet, paths: &[&str], memory: u64) {
         let mut band = sheet.top;
         for (group, path) in paths.iter().enumerate() {
-            self.draw_name(out, group, *path, band, self.whole(group, memory));
+            self.draw_name(out, sheet, group, *path, band, self.whole(group, memory));
             band = band.saturating_add(BAND);
             let form = Triangles {
                 bottom: band,

@@ -7,7 +7,7 @@ use crate::sheet::Sheet;
 use charts::Row;
 use drafts::Draft;
 use pictures::{
-    Label, Pen, RIGHT, Size, add_attribute, add_escaped, add_label, add_last_part, draw_labels,
+    Label, Pen, RIGHT, add_attribute, add_escaped, add_label, add_last_part, draw_labels,
 };
 use std::alloc::AllocError;
 
@@ -123,7 +123,7 @@ impl Columns<'_> {
         out.text("><title>");
         add_escaped(out, name);
         out.text(", peak ");
-        out.write_fmt(Size(peak_of(self.rows, group)));
+        out.write_fmt(sheet.size(peak_of(self.rows, group)));
         out.text("</title></path>\n");
     }
 
@@ -147,7 +147,7 @@ impl Columns<'_> {
         add_last_part(&mut text, name, MOST_CHARACTERS);
         if is_last {
             text.text(" ");
-            text.write_fmt(Size(pages));
+            text.write_fmt(sheet.size(pages));
         } else {
             text.text(" (removed)");
         }

@@ -62,6 +62,7 @@ fn layout_of(
         top,
         bottom,
         most: height_of(watched.rows.as_slice(), groups),
+        page_size: watched.sizes.page_size,
     };
     let machine = Sheet {
         top: below,

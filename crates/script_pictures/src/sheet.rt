@@ -2,6 +2,7 @@
 
 use crate::axis::{Place, Ticks};
 use drafts::Draft;
+use machine::page_size::PageSize;
 use pictures::{
     LEFT, RIGHT, Scale, Size, add_attribute, add_length, add_pixels, add_point, page_marks,
 };
@@ -17,9 +18,19 @@ pub struct Sheet {
     pub bottom: u64,
     /// How many pages its height is.
     pub most: u64,
+    /// How many bytes a page stands for.
+    pub page_size: PageSize,
 }
 
 impl Sheet {
+    /// So many pages, as their sizes are written.
+    pub fn size(self, pages: u64) -> Size {
+        Size {
+            pages,
+            page_size: self.page_size,
+        }
+    }
+
     /// How low the place of this number of pages is.
     pub fn down(self, pages: u64) -> u64 {
         let scale = Scale {
@@ -41,7 +52,7 @@ impl Sheet {
         add_length(out, "x", LEFT.saturating_sub(60));
         add_length(out, "y", y);
         out.text(" dy=\"4\" text-anchor=\"end\">");
-        out.write_fmt(Size(pages));
+        out.write_fmt(self.size(pages));
         out.text("</text>\n");
     }
 

@@ -6,7 +6,7 @@ use crate::sheet::Sheet;
 use charts::{Machine, Sizes};
 use drafts::Draft;
 use pictures::{
-    LEFT, Label, Pen, RIGHT, Size, add_attribute, add_label, add_pixels, add_point, draw_labels,
+    LEFT, Label, Pen, RIGHT, add_attribute, add_label, add_pixels, add_point, draw_labels,
 };
 use std::alloc::AllocError;
 
@@ -88,7 +88,7 @@ fn add_named(
     let mut text = Draft::new(sheet.alloc);
     text.text(name);
     text.text(" ");
-    text.write_fmt(Size(pages));
+    text.write_fmt(sheet.size(pages));
     add_label(labels, Label::new(sheet.down(pages), colour, text))
 }
 

@@ -48,6 +48,7 @@ quiet_by first ws files false (Some word.Watermarks) false f g h = (refl, refl)
 quiet_by first ws files false (Some word.Trace) false f g h = (refl, refl)
 quiet_by first ws files false (Some word.Fault) false f g h = (refl, refl)
 quiet_by first ws files false (Some word.RecursiveProtection) false f g h = (refl, refl)
+quiet_by first ws files false (Some word.PageSize) false f g h = (refl, refl)
 quiet_by first ws files false (Some _) false f g h = absurd cc
 
 quiet_words : (files : List File) (ws : List (List ℕ)) → is_header_line ws ≡ true → is_frames (word_of ws) ≡ false → IsQuiet (meaning files ws)

@@ -147,6 +147,17 @@ step ls left more k at l item.Recursive e (u, t) f =
       blocks = f.blocks;
       asked = other ls left more k.around.config.frames k.around.commands false k.around.given (word.RecursiveProtection ∷ []) (ap frames_line e ∙ frames_line-other l more (u, t.0, t.1)) f.asked;
     }
+step ls left more k at l (item.PageSize p) e (u, t) f =
+    record {
+      around = f.around;
+      frames = f.frames;
+      swap = f.swap;
+      marks = f.marks;
+      trace = f.trace;
+      files = f.files;
+      blocks = f.blocks;
+      asked = other ls left more k.around.config.frames k.around.commands false k.around.given (word.PageSize ∷ []) (ap frames_line e ∙ frames_line-other l more (u, t.0, t.1)) f.asked;
+    }
 step ls left more k at l item.Nothing e (u, t) f =
     record {
       around = f.around;

@@ -62,6 +62,7 @@ number_ends first word.Watermarks e h = (let f : is_numeral first ≡ false = ap
 number_ends first word.Trace e h = (let f : is_numeral first ≡ false = ap is_numeral e in absurd cc)
 number_ends first word.Fault e h = (let f : is_numeral first ≡ false = ap is_numeral e in absurd cc)
 number_ends first word.RecursiveProtection e h = (let f : is_numeral first ≡ false = ap is_numeral e in absurd cc)
+number_ends first word.PageSize e h = (let f : is_numeral first ≡ false = ap is_numeral e in absurd cc)
 number_ends first _ e h = refl
 
 number_is_no_word : (first : List ℕ) (o : Option Word) → ((w : Word) → o ≡ Some w → first ≡ (form_of w).name) → is_numeral first ≡ true → is_of_header o ≡ false
@@ -99,7 +100,7 @@ record IsFine (a : Around) (how : Manner) (task : Option (List ℕ)) (w : Word) 
 fine : (m : Mode) (a : Around) (how : Manner) (task : Option (List ℕ)) (w : Word) (ws : List (List ℕ)) → first_of (word_faults m a how task w ws) ≡ None → IsFine a how task w ws
 fine m a how task w ws h =
     let t : AllFail (word_faults m a how task w ws) = all_fail (word_faults m a how task w ws) h in
-    record { short = t.1.0; numbers = t.1.1.1.0; marks = t.1.1.1.1.0; names = t.1.1.1.1.1.0; late = t.1.1.1.1.1.1.0; again = t.1.1.1.1.1.1.1.0; full = t.1.1.1.1.1.1.1.1.0; blocks = t.1.1.1.1.1.1.1.1.1.0 }
+    record { short = t.1.0; numbers = t.1.1.1.0; marks = t.1.1.1.1.0; names = t.1.1.1.1.1.1.0; late = t.1.1.1.1.1.1.1.0; again = t.1.1.1.1.1.1.1.1.0; full = t.1.1.1.1.1.1.1.1.1.0; blocks = t.1.1.1.1.1.1.1.1.1.1.0 }
 
 not_false : (b : Bool) → not b ≡ false → b ≡ true
 not_false true h = refl
@@ -151,6 +152,7 @@ Tells a goes frames own says (item.Marks m) = (goes ≡ true) × (frames ≡ fal
 Tells a goes frames own says (item.Trace n) = (goes ≡ true) × (frames ≡ false) × (is_within 1 1048576 (Some n) ≡ true)
 Tells a goes frames own says (item.Fails what n) = (goes ≡ true) × (frames ≡ false)
 Tells a goes frames own says item.Recursive = (goes ≡ true) × (frames ≡ false)
+Tells a goes frames own says (item.PageSize p) = (goes ≡ true) × (frames ≡ false)
 Tells a goes frames own says item.Nothing = (goes ≡ true) × (frames ≡ false)
 Tells a goes frames own says (item.Does who what) = goes ≡ false
 Tells a goes frames own says (item.Begins who what) = goes ≡ false
@@ -175,6 +177,7 @@ task_word files task text word.Watermarks ws h = absurd cc
 task_word files task text word.Trace ws h = absurd cc
 task_word files task text word.Fault ws h = absurd cc
 task_word files task text word.RecursiveProtection ws h = absurd cc
+task_word files task text word.PageSize ws h = absurd cc
 task_word files task text word.Begin ws h = absurd cc
 task_word files task text _ ws h = refl
 
@@ -196,6 +199,7 @@ begun_word files m a word.Watermarks ws h = absurd cc
 begun_word files m a word.Trace ws h = absurd cc
 begun_word files m a word.Fault ws h = absurd cc
 begun_word files m a word.RecursiveProtection ws h = absurd cc
+begun_word files m a word.PageSize ws h = absurd cc
 begun_word files m a word.Begin ws h = absurd cc
 begun_word files m a _ ws h = refl
 
@@ -228,6 +232,7 @@ by_word m a word.Watermarks ws t h = let f = fine m a manner.Whole None word.Wat
 by_word m a word.Trace ws t h = let f = fine m a manner.Whole None word.Trace ws h in (refl, refl, size 1 1048576 ws f.short f.numbers)
 by_word m a word.Fault ws t h = (refl, refl)
 by_word m a word.RecursiveProtection ws t h = (refl, refl)
+by_word m a word.PageSize ws t h = (refl, refl)
 by_word m a word.Begin ws t h = absurd cc
 by_word m a _ ws t h = refl
 

@@ -1,7 +1,7 @@
 -- The line that says of a script why it could not be read.
 use Rattle.std.specs.Prelude.{ℕ, List, ◌++◌, codes, decimal}
 use Rattle.scripts.specs.declared.fault.Cause.{Cause}
-use Rattle.scripts.specs.declared.fault.Cause.TheVariants.{NotText, UnknownWord, MissingArgument, ExtraArgument, BadNumber, BadName, HeaderAfterCommands, HeaderTwice, TooManyFiles, TooManyBlocks, OnlyInSchedule}
+use Rattle.scripts.specs.declared.fault.Cause.TheVariants.{NotText, UnknownWord, MissingArgument, ExtraArgument, BadNumber, BadPageSize, BadName, HeaderAfterCommands, HeaderTwice, TooManyFiles, TooManyBlocks, OnlyInSchedule}
 use Rattle.scripts.specs.declared.fault.ScriptFault.{ScriptFault}
 use Rattle.scripts.specs.declared.fault.ScriptFault.TheVariants.{At, Memory}
 
@@ -12,6 +12,7 @@ cause_text UnknownWord = codes "unknown word"
 cause_text MissingArgument = codes "missing argument"
 cause_text ExtraArgument = codes "extra argument"
 cause_text BadNumber = codes "bad number"
+cause_text BadPageSize = codes "bad page size"
 cause_text BadName = codes "bad name"
 cause_text HeaderAfterCommands = codes "header after commands"
 cause_text HeaderTwice = codes "header twice"

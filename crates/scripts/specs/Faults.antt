@@ -5,16 +5,17 @@ use Rattle.std.specs.Str.{is_utf8}
 use denote.Ref.{Bor}
 use Rattle.machine.specs.declared.config.Config.{Config}
 use Rattle.machine.specs.declared.limit.TheConstants.{MOST_FILES, MOST_BLOCKS}
+use Rattle.machine.specs.Control.{page_size_of}
 use Rattle.machine.specs.Names.{is_name, is_path}
 use Rattle.machine.specs.Numbers.{is_numeral, number_below}
 use Rattle.machine.specs.State.{are_watermarks, blocks_of}
 use Rattle.scripts.specs.declared.fault.Cause.{Cause}
-use Rattle.scripts.specs.declared.fault.Cause.TheVariants.{NotText, UnknownWord, MissingArgument, ExtraArgument, BadNumber, BadName, HeaderAfterCommands, HeaderTwice, TooManyFiles, TooManyBlocks, OnlyInSchedule}
+use Rattle.scripts.specs.declared.fault.Cause.TheVariants.{NotText, UnknownWord, MissingArgument, ExtraArgument, BadNumber, BadPageSize, BadName, HeaderAfterCommands, HeaderTwice, TooManyFiles, TooManyBlocks, OnlyInSchedule}
 use Rattle.scripts.specs.declared.forms.Word.{Word}
 use Rattle.scripts.specs.declared.forms.Word.TheVariants as word
 use Rattle.scripts.specs.declared.forms.Speaker.TheVariants as speaker
 use Rattle.scripts.specs.declared.forms.Kind.{Kind}
-use Rattle.scripts.specs.declared.forms.Kind.TheVariants.{Number, Path, Name, Actor, Call, Any, Line}
+use Rattle.scripts.specs.declared.forms.Kind.TheVariants.{Number, Path, Name, Actor, Call, PageSize, Any, Line}
 use Rattle.scripts.specs.declared.forms.Manner.{Manner}
 use Rattle.scripts.specs.declared.forms.Manner.TheVariants as manner
 use Rattle.scripts.specs.declared.mode.Mode.{Mode}
@@ -38,6 +39,7 @@ word_fits Path word = true
 word_fits Name word = true
 word_fits Actor word = is_numeral word || is_some (actor_named word)
 word_fits Call word = is_some (call_named word)
+word_fits PageSize word = true
 word_fits Any word = true
 word_fits Line word = true
 
@@ -48,6 +50,7 @@ number_fits Path word = true
 number_fits Name word = true
 number_fits Actor word = is_some (actor_named word) || is_some (number_below (2 ^ 32) word)
 number_fits Call word = true
+number_fits PageSize word = true
 number_fits Any word = true
 number_fits Line word = true
 
@@ -58,6 +61,7 @@ name_fits Path word = is_path word
 name_fits Name word = is_name word
 name_fits Actor word = true
 name_fits Call word = true
+name_fits PageSize word = true
 name_fits Any word = true
 name_fits Line word = true
 
@@ -71,6 +75,10 @@ all_fit fits kinds words = list_all (λ p. fits p.0 p.1) (zip kinds words)
 -- the daemon's marks, if the line gives them, are in order and within the frames
 abbrev pub marks_fit : ℕ → Word → List (List ℕ) → Bool
 marks_fit frames w arguments = not (same_word w word.Watermarks) || are_watermarks (marks_of (at arguments 0) (at arguments 1)) frames
+
+-- the page size, if the line gives one, is one that a page may have
+abbrev pub page_fits : Word → List (List ℕ) → Bool
+page_fits w arguments = not (same_word w word.PageSize) || is_some (page_size_of (at arguments 0))
 
 -- the line gives a file a name that one before it has
 abbrev pub names_again : Config → Word → List (List ℕ) → Bool
@@ -100,6 +108,7 @@ word_faults mode around how task word arguments =
     ∷ (nat_lt (length form.arguments) (length arguments), ExtraArgument)
     ∷ (not (task_fits task) || not (all_fit number_fits form.arguments arguments), BadNumber)
     ∷ (not (marks_fit around.frames word arguments), BadNumber)
+    ∷ (not (page_fits word arguments), BadPageSize)
     ∷ (not (all_fit name_fits form.arguments arguments), BadName)
     ∷ (form.header && around.commands, HeaderAfterCommands)
     ∷ ((form.once && list_any (same_word word) around.given) || names_again around.config word arguments, HeaderTwice)

@@ -71,6 +71,7 @@ form_of word.Watermarks = header (codes "watermarks") (number ∷ number ∷ [])
 form_of word.Trace = header (codes "trace") (kind.Number 1 1048576 ∷ [])
 form_of word.Fault = header_many (codes "fault") (kind.Call ∷ kind.Number 1 4294967295 ∷ [])
 form_of word.RecursiveProtection = header_many (codes "recursiveprot") []
+form_of word.PageSize = header (codes "page") (kind.PageSize ∷ [])
 form_of word.Group = shell (codes "group") (kind.Path ∷ [])
 form_of word.Rmdir = shell (codes "rmdir") (kind.Path ∷ [])
 form_of word.Task = shell (codes "task") (number ∷ kind.Path ∷ [])
@@ -94,7 +95,7 @@ form_of word.Go = border (codes "go") []
 
 abbrev pub words : List Word
 words =
-    word.Frames ∷ word.Swap ∷ word.File ∷ word.Watermarks ∷ word.Trace ∷ word.Fault ∷ word.RecursiveProtection ∷ word.Group ∷ word.Rmdir ∷ word.Task ∷ word.Attach ∷ word.Set ∷ word.Cat ∷ word.Protection ∷ word.LowProtection ∷ word.Write
+    word.Frames ∷ word.Swap ∷ word.File ∷ word.Watermarks ∷ word.Trace ∷ word.Fault ∷ word.RecursiveProtection ∷ word.PageSize ∷ word.Group ∷ word.Rmdir ∷ word.Task ∷ word.Attach ∷ word.Set ∷ word.Cat ∷ word.Protection ∷ word.LowProtection ∷ word.Write
     ∷ word.Read ∷ word.FileWrite ∷ word.FileRead ∷ word.Fork ∷ word.Free ∷ word.Exit ∷ word.Daemon ∷ word.Begin ∷ word.Step ∷ word.Finish ∷ word.Go ∷ []
 
 abbrev pub same_speaker : Speaker → Speaker → Bool
@@ -157,26 +158,27 @@ place word.Watermarks = 3
 place word.Trace = 4
 place word.Fault = 5
 place word.RecursiveProtection = 6
-place word.Group = 7
-place word.Rmdir = 8
-place word.Task = 9
-place word.Attach = 10
-place word.Set = 11
-place word.Cat = 12
-place word.Protection = 13
-place word.LowProtection = 14
-place word.Write = 15
-place word.Read = 16
-place word.FileWrite = 17
-place word.FileRead = 18
-place word.Fork = 19
-place word.Free = 20
-place word.Exit = 21
-place word.Daemon = 22
-place word.Begin = 23
-place word.Step = 24
-place word.Finish = 25
-place word.Go = 26
+place word.PageSize = 7
+place word.Group = 8
+place word.Rmdir = 9
+place word.Task = 10
+place word.Attach = 11
+place word.Set = 12
+place word.Cat = 13
+place word.Protection = 14
+place word.LowProtection = 15
+place word.Write = 16
+place word.Read = 17
+place word.FileWrite = 18
+place word.FileRead = 19
+place word.Fork = 20
+place word.Free = 21
+place word.Exit = 22
+place word.Daemon = 23
+place word.Begin = 24
+place word.Step = 25
+place word.Finish = 26
+place word.Go = 27
 
 abbrev pub same_word : Word → Word → Bool
 same_word v w = place v == place w

@@ -4,6 +4,7 @@ use Rattle.std.specs.List.{take_while}
 use Rattle.std.specs.Str.{is_utf8}
 use Rattle.machine.specs.declared.config.Config.{Config}
 use Rattle.machine.specs.declared.config.Placement.TheVariants.{Own}
+use Rattle.machine.specs.PageSizes.{of_4k}
 use Rattle.scripts.specs.declared.fault.Cause.{Cause}
 use Rattle.scripts.specs.declared.meaning.Item.{Item}
 use Rattle.scripts.specs.declared.meaning.Item.TheVariants as item
@@ -21,7 +22,7 @@ use Rattle.scripts.specs.Faults.{fault}
 
 -- what holds where the header says nothing
 abbrev pub default_config : Config
-default_config = record { frames = 64; swap = 0; files = []; watermarks = record { low = 0; high = 0 }; trace = 65536; turns = 1000; recursive = false; placement = Own }
+default_config = record { frames = 64; swap = 0; files = []; watermarks = record { low = 0; high = 0 }; trace = 65536; turns = 1000; recursive = false; placement = Own; page_size = of_4k }
 
 abbrev pub config_after : Config → Item → Config
 config_after c (item.Frames n) = record c { frames = n }
@@ -32,6 +33,7 @@ config_after c (item.Trace n) = record c { trace = n }
 config_after c item.Nothing = c
 config_after c (item.Fails what n) = c
 config_after c item.Recursive = record c { recursive = true }
+config_after c (item.PageSize page_size) = record c { page_size = page_size }
 config_after c (item.Does actor what) = c
 config_after c (item.Begins actor what) = c
 config_after c (item.Advances actor) = c

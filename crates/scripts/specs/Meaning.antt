@@ -1,5 +1,6 @@
 -- What a line says.
 use Rattle.std.specs.Prelude.{ℕ, Bool, ◌^◌, List, [], ◌∷◌, Option, Some, None, min, position, unwrap_or, slice_index_or, if◌then◌else◌}
+use Rattle.std.specs.Option.{option_map}
 use Rattle.std.specs.Str.{bytes_eq}
 use Rattle.machine.specs.declared.command.Actor.{Actor}
 use Rattle.machine.specs.declared.command.Actor.TheVariants as actor
@@ -12,7 +13,10 @@ use Rattle.machine.specs.declared.event.Op.TheVariants as op
 use Rattle.machine.specs.declared.config.File.{File}
 use Rattle.machine.specs.declared.config.Watermarks.{Watermarks}
 use Rattle.machine.specs.declared.limit.TheConstants.{MOST_FILES}
+use Rattle.machine.specs.declared.page_size.PageSize.{PageSize}
 use Rattle.machine.specs.Numbers.{is_numeral, number_below}
+use Rattle.machine.specs.Control.{page_size_of}
+use Rattle.machine.specs.PageSizes.{page_of, of_4k}
 use Rattle.scripts.specs.declared.meaning.Item.{Item}
 use Rattle.scripts.specs.declared.meaning.Item.TheVariants as item
 use Rattle.scripts.specs.declared.forms.Word.{Word}
@@ -51,6 +55,10 @@ call_value word = unwrap_or (call_named word) call.Read
 abbrev pub marks_of : List ℕ → List ℕ → Watermarks
 marks_of low high = record { low = number_value low; high = number_value high }
 
+-- the page that a word says; one of 4K of a word that says none, which a faultless line has not
+abbrev pub page_value : List ℕ → PageSize
+page_value word = unwrap_or (option_map page_of (page_size_of word)) of_4k
+
 abbrev pub access_to : List ℕ → List ℕ → Op → Command
 access_to page offset op = command.Access (place.Virtual (number_value page) (number_value offset)) op
 
@@ -77,6 +85,7 @@ word_means files task word.Watermarks a = item.Marks (marks_of (at a 0) (at a 1)
 word_means files task word.Trace a = item.Trace (number_value (at a 0))
 word_means files task word.Fault a = item.Fails (call_value (at a 0)) (number_value (at a 1))
 word_means files task word.RecursiveProtection a = item.Recursive
+word_means files task word.PageSize a = item.PageSize (page_value (at a 0))
 word_means files task word.Group a = item.Does (actor_of task) (command.Group (at a 0))
 word_means files task word.Rmdir a = item.Does (actor_of task) (command.Rmdir (at a 0))
 word_means files task word.Task a = item.Does (actor_of task) (command.Task (number_value (at a 0)) (at a 1))

@@ -54,6 +54,7 @@ steps_of_item (item.Marks m) = []
 steps_of_item (item.Trace n) = []
 steps_of_item (item.Fails what n) = []
 steps_of_item item.Recursive = []
+steps_of_item (item.PageSize p) = []
 steps_of_item item.EndsSetup = []
 
 abbrev pub steps_of : List Item → List Step
@@ -93,6 +94,7 @@ is_command (item.Marks m) = false
 is_command (item.Trace n) = false
 is_command (item.Fails what n) = false
 is_command item.Recursive = false
+is_command (item.PageSize p) = false
 
 -- the word of the header that the line begins with
 abbrev pub header_word : Item → Option Word
@@ -103,6 +105,7 @@ header_word (item.Marks m) = Some word.Watermarks
 header_word (item.Trace n) = Some word.Trace
 header_word (item.Fails what n) = Some word.Fault
 header_word item.Recursive = Some word.RecursiveProtection
+header_word (item.PageSize p) = Some word.PageSize
 header_word item.Nothing = None
 header_word (item.Does actor what) = None
 header_word (item.Begins actor what) = None

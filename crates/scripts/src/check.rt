@@ -6,7 +6,7 @@ ghost use Rattle.std.specs.Option.{option_map};
 ghost use Rattle.machine.specs.State.{sizes_of};
 ghost use Rattle.scripts.specs.Forms.{form_of};
 ghost use Rattle.scripts.specs.Context.{around};
-ghost use Rattle.scripts.specs.Faults.{word_fits, number_fits, name_fits, all_fit, task_fits, marks_fit, names_again, files_full, blocks_with, first_of, word_faults, now};
+ghost use Rattle.scripts.specs.Faults.{word_fits, number_fits, name_fits, all_fit, task_fits, marks_fit, page_fits, names_again, files_full, blocks_with, first_of, word_faults, now};
 ghost use Rattle.scripts.specs.Lines.{no_misfit, with_argument, header_faults};
 ghost use Rattle.scripts.specs.Meaning.{has_name};
 
@@ -15,6 +15,7 @@ use crate::fault::Cause;
 use crate::forms::{Kind, Manner, Word, actor_named, call_named, is_scheduled, may_stand};
 use crate::meaning::{has_name, marks_of, number_value};
 use crate::words::Token;
+use control_files::parse_page_size;
 use files::blocks_behind;
 use machine::config::{Config, File};
 use machine::limit::{MOST_BLOCKS, MOST_FILES};
@@ -26,7 +27,8 @@ pub fn word_fits(kind: Kind, word: &Token<'_>) -> bool
     match kind {
         Kind::Actor => word.is_digits() || actor_named(word.text()).is_some(),
         Kind::Call => call_named(word.text()).is_some(),
-        Kind::Number { .. } | Kind::Path | Kind::Name | Kind::Any | Kind::Line => true,
+        Kind::Number { .. } | Kind::Path | Kind::Name | Kind::PageSize => true,
+        Kind::Any | Kind::Line => true,
     }
 }
 
@@ -39,7 +41,8 @@ pub fn number_fits(kind: Kind, word: &Token<'_>) -> bool
             None => false,
         },
         Kind::Actor => actor_named(word.text()).is_some() || word.number().is_some(),
-        Kind::Path | Kind::Name | Kind::Call | Kind::Any | Kind::Line => true,
+        Kind::Path | Kind::Name | Kind::Call | Kind::PageSize => true,
+        Kind::Any | Kind::Line => true,
     }
 }
 
@@ -49,7 +52,8 @@ pub fn name_fits(kind: Kind, word: &Token<'_>) -> bool
     match kind {
         Kind::Path => is_path(word.text()),
         Kind::Name => is_name(word.text()),
-        Kind::Number { .. } | Kind::Actor | Kind::Call | Kind::Any | Kind::Line => true,
+        Kind::Number { .. } | Kind::Actor | Kind::Call | Kind::PageSize => true,
+        Kind::Any | Kind::Line => true,
     }
 }
 
@@ -91,7 +95,7 @@ fn with_argument(fits: Fits, kind: Kind, word: &Token<'_>) -> Fits
             words: word_fits(kind, word) && fits.words,
             ..fits
         },
-        Kind::Any | Kind::Line => fits,
+        Kind::PageSize | Kind::Any | Kind::Line => fits,
     }
 }
 
@@ -130,6 +134,14 @@ fn is_taken(files: &[File], name: &Token<'_>) -> bool
     ensures { result ≡ list_any (has_name name.now) files.now }
 {
     files.iter().any(|file| has_name(name, file))
+}
+
+/// Whether the page size, if the line gives one, is one that a page may have.
+fn page_fits(word: Word, arguments: &[Token<'_>]) -> bool
+    requires { length arguments.now ≡ length (form_of word).arguments }
+    ensures { result ≡ page_fits word arguments.now }
+{
+    word != Word::PageSize || parse_page_size(arguments[0].text()).is_some()
 }
 
 /// Whether the line gives a file a name that an earlier one has.
@@ -226,6 +238,9 @@ pub fn fault_of_word(
     }
     if !marks_fit(context.frames, word, arguments) {
         return Some(Cause::BadNumber);
+    }
+    if !page_fits(word, arguments) {
+        return Some(Cause::BadPageSize);
     }
     if !fits.names {
         return Some(Cause::BadName);

@@ -21,6 +21,8 @@ pub enum Cause {
     ExtraArgument,
     /// A number has a character that is not a decimal digit, or is out of its limits.
     BadNumber,
+    /// A page size is not an amount that a page may stand for.
+    BadPageSize,
     /// A path of a group, or a name of a file, is not valid.
     BadName,
     /// A line of the header comes after one that is not.
@@ -49,6 +51,7 @@ impl fmt::Display for Cause {
             Cause::MissingArgument => "missing argument",
             Cause::ExtraArgument => "extra argument",
             Cause::BadNumber => "bad number",
+            Cause::BadPageSize => "bad page size",
             Cause::BadName => "bad name",
             Cause::HeaderAfterCommands => "header after commands",
             Cause::HeaderTwice => "header twice",

@@ -29,6 +29,8 @@ pub enum Kind {
     Actor,
     /// A call of the device.
     Call,
+    /// An amount that a page may stand for.
+    PageSize,
     /// Any word.
     Any,
     /// All that follows, which is a line of its own. It is the word's one argument.
@@ -61,6 +63,7 @@ pub enum Word {
     Trace,
     Fault,
     RecursiveProtection,
+    PageSize,
     Group,
     Rmdir,
     Task,
@@ -253,6 +256,7 @@ impl Word {
             Word::Trace => header("trace", &[ENTRIES]),
             Word::Fault => header_many("fault", &[Kind::Call, COUNT]),
             Word::RecursiveProtection => header_many("recursiveprot", &[]),
+            Word::PageSize => header("page", &[Kind::PageSize]),
             Word::Group => shell("group", &[Kind::Path]),
             Word::Rmdir => shell("rmdir", &[Kind::Path]),
             Word::Task => shell("task", &[NUMBER, Kind::Path]),
@@ -305,6 +309,7 @@ fn word_of_shell(text: &str) -> Option<Word>
         "trace" => Some(Word::Trace),
         "fault" => Some(Word::Fault),
         "recursiveprot" => Some(Word::RecursiveProtection),
+        "page" => Some(Word::PageSize),
         "group" => Some(Word::Group),
         "rmdir" => Some(Word::Rmdir),
         "task" => Some(Word::Task),

@@ -15,6 +15,7 @@ use crate::mode::Mode;
 use crate::words::{Token, words_of};
 use machine::config::{Config, FileList, Placement, Watermarks};
 use machine::limit::USUAL_TURNS;
+use machine::page_size::PageSize;
 use std::alloc::{AllocError, Global};
 
 /// How many frames there are if the header does not say it.
@@ -33,6 +34,7 @@ pub fn default_config(alloc: Global) -> Config
         turns: USUAL_TURNS,
         recursive: false,
         placement: Placement::Own,
+        page_size: PageSize::of_4k(),
     }
 }
 

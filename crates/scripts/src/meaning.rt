@@ -6,16 +6,18 @@ ghost use Rattle.machine.specs.declared.command.Command.TheVariants.{Protection}
 ghost use Rattle.scripts.specs.declared.meaning.Item.TheVariants.{Does};
 ghost use Rattle.scripts.specs.Forms.{form_of};
 ghost use Rattle.scripts.specs.Faults.{now};
-ghost use Rattle.scripts.specs.Meaning.{number_value, byte_value, actor_of, actor_value, call_value, marks_of, access_to, has_name, file_number, file_access_to, file_of, word_means};
+ghost use Rattle.scripts.specs.Meaning.{number_value, byte_value, actor_of, actor_value, call_value, page_value, marks_of, access_to, has_name, file_number, file_access_to, file_of, word_means};
 ghost use Rattle.scripts.specs.Lines.{as_it_stands, Reads};
 
 use crate::fault::LineError;
 use crate::forms::{DeviceCall, Manner, Word, actor_named, call_named};
 use crate::words::Token;
+use control_files::parse_page_size;
 use machine::command::{Actor, Command};
 use machine::config::{File, Watermarks};
 use machine::event::{Op, Place};
 use machine::limit::MOST_FILES;
+use machine::page_size::PageSize;
 use machine::record::Guard;
 use machine::text::Text;
 use std::alloc::{AllocError, Global};
@@ -39,6 +41,8 @@ pub enum Item {
     Fails(DeviceCall, u32),
     /// Protection is recursive.
     Recursive,
+    /// A page stands for this number of bytes.
+    PageSize(PageSize),
     /// The actor does this, from its beginning to its end.
     Does(Actor, Command),
     /// The actor begins this.
@@ -91,6 +95,12 @@ fn call_value(word: &Token<'_>) -> DeviceCall
     ensures { result ≡ call_value word.now }
 {
     call_named(word.text()).unwrap_or(DeviceCall::Read)
+}
+
+fn page_value(word: &Token<'_>) -> PageSize
+    ensures { result ≡ page_value word.now }
+{
+    parse_page_size(word.text()).unwrap_or(PageSize::of_4k())
 }
 
 pub fn marks_of(low: &Token<'_>, high: &Token<'_>) -> Watermarks
@@ -212,6 +222,7 @@ pub fn item_of_word(
             return Ok(Item::Fails(call, number_value(&arguments[1])));
         }
         Word::RecursiveProtection => return Ok(Item::Recursive),
+        Word::PageSize => return Ok(Item::PageSize(page_value(&arguments[0]))),
         Word::Group => Command::Group(text_of(alloc, &arguments[0])?),
         Word::Rmdir => Command::Rmdir(text_of(alloc, &arguments[0])?),
         Word::Task => Command::Task {

@@ -156,6 +156,10 @@ impl Reading {
                 self.context.given.push(Word::RecursiveProtection)?;
                 self.context.config.recursive = true;
             }
+            Item::PageSize(page_size) => {
+                self.context.given.push(Word::PageSize)?;
+                self.context.config.page_size = page_size;
+            }
             Item::Does(actor, command) => self.add_command(alloc, line, actor, command)?,
             Item::Begins(actor, command) => self.add_entry(
                 line,

@@ -11,6 +11,7 @@ use block_store::{BlockDevice, MemDevice};
 use book::{Book, Event, InTicket, Kept, OutTicket, Pass, Reply};
 use machine::command::Answer;
 use machine::event::Query;
+use machine::page_size::PageSize;
 use machine::refusal::Refusal;
 use machine::reply::Reply as Said;
 use machine::text::Text;
@@ -199,7 +200,7 @@ impl Machine {
             Want::Call(pending, event) => {
                 let reply = call(&mut self.book, &mut self.pass, event);
                 hear(hunt, &mut self.told, name, said(&self.pass));
-                match told(hunt.alloc(), pending, reply) {
+                match told(hunt.alloc(), PageSize::of_4k(), pending, reply) {
                     Ok(transition) => transition,
                     Err(_) => {
                         hunt.demand(false, "a text has no memory");

@@ -8,6 +8,7 @@ use crate::tour::{Plan, end};
 use block_store::MemDevice;
 use book::{Book, Pass};
 use machine::config::{Config, File, FileList, Placement, Watermarks};
+use machine::page_size::PageSize;
 use machine::refusal::Refusal;
 use machine::text::Text;
 use std::alloc::{AllocError, Global};
@@ -83,6 +84,7 @@ pub fn config(alloc: Global) -> Result<Config, AllocError> {
         turns: 1000,
         recursive: false,
         placement: Placement::Own,
+        page_size: PageSize::of_4k(),
     })
 }
 

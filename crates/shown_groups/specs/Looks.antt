@@ -21,18 +21,19 @@ stat_in look = shown.Stat look.stat
 abbrev pub events_in : EndLook → Shown
 events_in look = shown.Events look.events
 
-abbrev pub look_files : List ℕ → Option EndLook → List ℕ
-look_files path look =
-    file_text path (codes "memory.current") (option_map current_in (with_files look))
-    ++ (file_text path (codes "memory.stat") (option_map stat_in (with_files look))
-    ++ file_text path (codes "memory.events") (option_map events_in (with_files look)))
+-- with pages of this size, here and below
+abbrev pub look_files : ℕ → List ℕ → Option EndLook → List ℕ
+look_files page_size path look =
+    file_text page_size path (codes "memory.current") (option_map current_in (with_files look))
+    ++ (file_text page_size path (codes "memory.stat") (option_map stat_in (with_files look))
+    ++ file_text page_size path (codes "memory.events") (option_map events_in (with_files look)))
 
-abbrev pub look_text : Missing → List ℕ → Option EndLook → List ℕ
-look_text missing.Skipped path None = []
-look_text missing.Skipped path (Some look) = look_files path (Some look)
-look_text missing.Told path look = look_files path look
+abbrev pub look_text : ℕ → Missing → List ℕ → Option EndLook → List ℕ
+look_text page_size missing.Skipped path None = []
+look_text page_size missing.Skipped path (Some look) = look_files page_size path (Some look)
+look_text page_size missing.Told path look = look_files page_size path look
 
-abbrev pub looks_text : Missing → List (List ℕ) → List (Option EndLook) → List ℕ
-looks_text how [] looks = []
-looks_text how (path ∷ paths) [] = []
-looks_text how (path ∷ paths) (look ∷ looks) = look_text how path look ++ looks_text how paths looks
+abbrev pub looks_text : ℕ → Missing → List (List ℕ) → List (Option EndLook) → List ℕ
+looks_text page_size how [] looks = []
+looks_text page_size how (path ∷ paths) [] = []
+looks_text page_size how (path ∷ paths) (look ∷ looks) = look_text page_size how path look ++ looks_text page_size how paths looks

@@ -30,23 +30,23 @@ abbrev pub numbers_of_file : State → ControlFile → (GroupId → Query) → O
 numbers_of_file s what asks None = None
 numbers_of_file s what asks (Some g) = if has_file g what then Some (shown_of s (asks (record { 0 = g }))) else None
 
--- what `cat` answers: the file's text, or that there is no such file
-abbrev pub cat_text : Option Shown → List ℕ
-cat_text None = answer_text Shell (answer.Word (word.Refused refusal.NoEntry))
-cat_text (Some numbers) = text_of numbers
+-- what `cat` answers with pages of this size: the file's text, or that there is no such file
+abbrev pub cat_text : ℕ → Option Shown → List ℕ
+cat_text page_size None = answer_text Shell (answer.Word (word.Refused refusal.NoEntry))
+cat_text page_size (Some numbers) = text_of page_size numbers
 
 -- a line with the file's name, and after it what `cat` answers
-abbrev pub file_text : List ℕ → List ℕ → Option Shown → List ℕ
-file_text path name numbers = line (path ++ (codes "/" ++ name)) ++ cat_text numbers
+abbrev pub file_text : ℕ → List ℕ → List ℕ → Option Shown → List ℕ
+file_text page_size path name numbers = line (path ++ (codes "/" ++ name)) ++ cat_text page_size numbers
 
 -- ---- the files of a path
 
 -- the three files of the group that has the path in this state. (Excludes the numbers of another group under a path, and those of one file under the name of another.)
 abbrev pub files_text : State → List ℕ → Option ℕ → List ℕ
 files_text s path g =
-    file_text path (codes "memory.current") (numbers_of_file s file.Current query.Current g)
-    ++ (file_text path (codes "memory.stat") (numbers_of_file s file.Stat query.Stat g)
-    ++ file_text path (codes "memory.events") (numbers_of_file s file.Events query.Events g))
+    file_text s.opening.page_size path (codes "memory.current") (numbers_of_file s file.Current query.Current g)
+    ++ (file_text s.opening.page_size path (codes "memory.stat") (numbers_of_file s file.Stat query.Stat g)
+    ++ file_text s.opening.page_size path (codes "memory.events") (numbers_of_file s file.Events query.Events g))
 
 -- the same, or nothing if no group has the path and such are left out
 abbrev pub found_text : Missing → State → List ℕ → Option ℕ → List ℕ

@@ -7,6 +7,7 @@ ghost use Rattle.shown_groups.specs.Looks.{with_files, current_in, stat_in, even
 
 use control_files::show_text;
 use live::EndLook;
+use machine::page_size::PageSize;
 use machine::reply::Shown;
 use printer::write_bytes;
 use std::alloc::{AllocError, Global};
@@ -59,11 +60,15 @@ fn events_in(look: Option<EndLook>) -> Option<Shown>
 }
 
 /// What `cat` answers: the file's text, or that there is no such file.
-fn cat_text(alloc: Global, numbers: Option<Shown>) -> Result<String, AllocError>
-    ensures { IfOk result (λ text. string_bytes text ≡ cat_text numbers) }
+fn cat_text(
+    alloc: Global,
+    page_size: PageSize,
+    numbers: Option<Shown>,
+) -> Result<String, AllocError>
+    ensures { IfOk result (λ text. string_bytes text ≡ cat_text page_size.bytes numbers) }
 {
     match numbers {
-        Some(numbers) => show_text(alloc, numbers),
+        Some(numbers) => show_text(alloc, page_size, numbers),
         None => String::from_str(alloc, "error ENOENT\n"),
     }
 }
@@ -71,78 +76,97 @@ fn cat_text(alloc: Global, numbers: Option<Shown>) -> Result<String, AllocError>
 /// A line with the name of a file, and then what `cat` answers.
 fn file_text(
     alloc: Global,
+    page_size: PageSize,
     path: &str,
     name: &str,
     numbers: Option<Shown>,
 ) -> Result<String, AllocError>
-    ensures { IfOk result (λ text. string_bytes text ≡ file_text path.now name.now numbers) }
+    ensures { IfOk result (λ text. string_bytes text ≡ file_text page_size.bytes path.now name.now numbers) }
 {
-    let said = cat_text(alloc, numbers)?;
+    let said = cat_text(alloc, page_size, numbers)?;
     format!(in alloc; "{path}/{name}\n{said}")
 }
 
 /// Writes that.
 fn write_file<O: Write>(
     alloc: Global,
+    page_size: PageSize,
     path: &str,
     name: &str,
     numbers: Option<Shown>,
     out: &mut O,
 ) -> io::Result<()>
-    ensures { OnOk result (Appends (O.contents out.old) (O.contents out.new) (file_text path.now name.now numbers)) }
+    ensures { OnOk result (Appends (O.contents out.old) (O.contents out.new) (file_text page_size.bytes path.now name.now numbers)) }
 {
-    let text = file_text(alloc, path, name, numbers)?;
+    let text = file_text(alloc, page_size, path, name, numbers)?;
     write_bytes(out, text.as_bytes())
 }
 
 /// Writes the three files of a path.
 fn write_files<O: Write>(
     alloc: Global,
+    page_size: PageSize,
     path: &str,
     look: Option<EndLook>,
     out: &mut O,
 ) -> io::Result<()>
-    ensures { OnOk result (Appends (O.contents out.old) (O.contents out.new) (look_files path.now look)) }
+    ensures { OnOk result (Appends (O.contents out.old) (O.contents out.new) (look_files page_size.bytes path.now look)) }
 {
     let look = with_files(look);
-    write_file(alloc, path, "memory.current", current_in(look), out)?;
-    write_file(alloc, path, "memory.stat", stat_in(look), out)?;
-    write_file(alloc, path, "memory.events", events_in(look), out)?;
+    write_file(
+        alloc,
+        page_size,
+        path,
+        "memory.current",
+        current_in(look),
+        out,
+    )?;
+    write_file(alloc, page_size, path, "memory.stat", stat_in(look), out)?;
+    write_file(
+        alloc,
+        page_size,
+        path,
+        "memory.events",
+        events_in(look),
+        out,
+    )?;
     Ok(())
 }
 
 /// The same, or nothing if no group has the path and such paths are skipped.
 fn write_look<O: Write>(
     alloc: Global,
+    page_size: PageSize,
     missing: Missing,
     path: &str,
     look: Option<EndLook>,
     out: &mut O,
 ) -> io::Result<()>
-    ensures { OnOk result (Appends (O.contents out.old) (O.contents out.new) (look_text missing path.now look)) }
+    ensures { OnOk result (Appends (O.contents out.old) (O.contents out.new) (look_text page_size.bytes missing path.now look)) }
 {
     match missing {
-        Missing::Told => write_files(alloc, path, look, out),
+        Missing::Told => write_files(alloc, page_size, path, look, out),
         Missing::Skipped => match look {
             None => Ok(()),
-            Some(found) => write_files(alloc, path, Some(found), out),
+            Some(found) => write_files(alloc, page_size, path, Some(found), out),
         },
     }
 }
 
-/// The same of several paths, one after the other.
+/// The same of several paths, one after the other, with pages of this size.
 pub fn write_looks<O: Write>(
     alloc: Global,
+    page_size: PageSize,
     missing: Missing,
     paths: &[&str],
     looks: &[Option<EndLook>],
     out: &mut O,
 ) -> io::Result<()>
     requires { length looks.now ≡ length paths.now }
-    ensures { OnOk result (Appends (O.contents out.old) (O.contents out.new) (looks_text missing (map (λ p. p.now) paths.now) looks.now)) }
+    ensures { OnOk result (Appends (O.contents out.old) (O.contents out.new) (looks_text page_size.bytes missing (map (λ p. p.now) paths.now) looks.now)) }
 {
     for at in 0..paths.len() {
-        write_look(alloc, missing, paths[at], looks[at], out)?;
+        write_look(alloc, page_size, missing, paths[at], looks[at], out)?;
     }
     Ok(())
 }

@@ -1,5 +1,7 @@
 //! Expectations.
 
+ghost use Rattle.std.specs.Prelude.{◌≡◌, ◌&&◌};
+
 use crate::run::{Run, say};
 use block_store::MemDevice;
 use drafts::Draft;
@@ -157,7 +159,9 @@ impl<'p> Run<'p> {
         words: &Text,
         verdict: &Verdict,
         out: &mut O,
-    ) -> Result<(), Problem> {
+    ) -> Result<(), Problem>
+        ensures { self.new.well ≡ (self.old.well && verdict.now.met) }
+    {
         self.well = self.well && verdict.met;
         match self.asked.prints {
             Prints::Report => {}

@@ -1,11 +1,8 @@
-//! Callers of the program's public functions, with readers and writers: some fail, some give and take little at a time,
-//! and some never end. Also what is written during a run, in addition to its answers.
+//! Callers of the program's public functions on threads. Also what is written during a run, in addition to its answers.
 //!
 //! What a test expects comes from the rules, never from a run.
 #![tactic(auto)]
 
-#[cfg(test)]
-mod failing;
 #[cfg(test)]
 mod other_bytes;
 #[cfg(test)]

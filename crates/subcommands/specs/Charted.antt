@@ -31,7 +31,7 @@ charted_in steps = or_root (paths_in steps)
 pub record ListsRun (config : Config) (before : Disk) (steps : List Step) (numbers : List ℕ) (phases : List (List ℕ)) (text : List ℕ) : Type 0 where
   pub rows : List Row
   pub watched : IsWatched config before steps (charted_in steps) true rows
-  pub is : text ≡ table_text numbers phases (charted_in steps) (expanded rows)
+  pub is : text ≡ table_text config.page_size.bytes numbers phases (charted_in steps) (expanded rows)
 
 -- no line of the script is faulty, and a writer got its table, and nothing else. (Excludes a table that leaves out a group that the script makes,
 -- and one with numbers that no run has, or of another line, or with a phase that the script does not name there.)

@@ -66,6 +66,7 @@ fn text_of(
     let numbers = drawn.schedule.numbers(alloc)?;
     let phases = phases(alloc, drawn.script)?;
     let steps = Steps::Lines(drawn.schedule);
+    let page_size = config.page_size;
     match drawn.kind {
         Drawing::Picture => {
             let Ok(watched) = watch(alloc, config, device, steps, &paths, false) else {
@@ -78,7 +79,7 @@ fn text_of(
             let Ok(watched) = watch(alloc, config, device, steps, &paths, true) else {
                 return Err(AllocError);
             };
-            table(alloc, &numbers, &phases, &paths, &watched)
+            table(alloc, page_size, &numbers, &phases, &paths, &watched)
         }
     }
 }

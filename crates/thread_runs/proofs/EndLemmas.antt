@@ -1,5 +1,5 @@
 -- A run on threads, once its trace was judged.
-use Rattle.std.proofs.Common.{◌≡◌, ◌⊎◌, inl, inr, ℕ, zero, suc, ◌<◌, true, false, List, [], ◌∷◌, ◌++◌, length, reverse, Option, refl, ap, subst, sym, ◌∙◌, arith}
+use Rattle.std.proofs.Common.{◌≡◌, ◌⊎◌, inl, inr, ℕ, zero, suc, ◌<◌, true, false, List, [], ◌∷◌, map, ◌++◌, length, reverse, Option, refl, ap, subst, sym, ◌∙◌, arith}
 use Rattle.std.specs.Prelude.{Result, Ok, Err, IsErr, IfOk, IfErr, is_ok, All, slice_index_or}
 use Rattle.std.specs.Io.KnownBytes.{Appends, Keeps}
 use Rattle.std.proofs.KnownBytes.{Appends-kept, Appends-trans}
@@ -28,7 +28,8 @@ use Rattle.script_faults.specs.declared.fault.Fault.{Fault}
 use Rattle.thread_runs.specs.declared.threads.Verdict.{Verdict}
 use Rattle.printer.specs.Prints.{texts}
 use Rattle.live.specs.declared.looks.EndLook.{EndLook}
-use Rattle.live.specs.Looks.{EndsLooked}
+use Rattle.live.specs.Looks.{end_look, EndsLooked}
+use Rattle.live.proofs.ActLemmas.{leads-opening}
 use Rattle.shown_groups.specs.declared.shown.Missing.{Missing}
 use Rattle.shown_groups.specs.Shown.{paths_text}
 use Rattle.shown_groups.specs.Looks.{looks_text}
@@ -101,13 +102,15 @@ module _ (entries : List Entry) (passes : List PassOf) (audited : Result (Unit {
       by (Err first) right wrong = (agree, wrong)
 
   -- a report, once what the looks print and what it says were written
-  pub concluded : (opening : Opening) (how : Missing) (paths : List (List ℕ)) (looks : List (Option EndLook)) (verdict : Verdict) (said : Result Verdict Fault) (a b c : Option (List ℕ)) → IsLegal opening (reverse entries) → Numbered (reverse entries)
-      → EndsLooked opening entries passes paths looks → All (λ (pass : PassOf). WereGiven opening (reverse entries) pass.caller.worker pass.exchanges) passes → Appends a b (looks_text how paths looks)
+  pub concluded : (size : ℕ) (opening : Opening) → size ≡ opening.page_size → (how : Missing) (paths : List (List ℕ)) (looks : List (Option EndLook)) (verdict : Verdict) (said : Result Verdict Fault) (a b c : Option (List ℕ)) → IsLegal opening (reverse entries) → Numbered (reverse entries)
+      → EndsLooked opening entries passes paths looks → All (λ (pass : PassOf). WereGiven opening (reverse entries) pass.caller.worker pass.exchanges) passes → Appends a b (looks_text size how paths looks)
       → verdict ≡ verdict_by audited → IfOk said (λ was. (was ≡ verdict) × Appends b c (verdict_line verdict)) → IfOk said (λ was. Concluded opening passes (λ s. paths_text how s paths) was a c)
-  concluded opening how paths looks verdict (Err why) a b c legal numbered looked each shown is written = tt
-  concluded opening how paths looks verdict (Ok was) a b c legal numbered looked each shown is written =
+  concluded size opening paged how paths looks verdict (Err why) a b c legal numbered looked each shown is written = tt
+  concluded size opening paged how paths looks verdict (Ok was) a b c legal numbered looked each shown is written =
       let s = looked.run.past.state in
-      let same : looks_text how paths looks ≡ paths_text how s paths = ap (looks_text how paths) looked.looks_are ∙ looks-shown how s paths in
+      let sized : size ≡ s.opening.page_size = paged ∙ ap (λ (o : Opening). o.page_size) (sym (leads-opening opening looked.run.acts looked.run.past looked.run.leads)) in
+      let same : looks_text size how paths looks ≡ paths_text how s paths =
+      ap (looks_text size how paths) looked.looks_are ∙ ap (λ (n : ℕ). looks_text n how paths (map (end_look s) paths)) sized ∙ looks-shown how s paths in
       record {
         entries = entries;
         legal = legal;

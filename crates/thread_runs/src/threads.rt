@@ -28,6 +28,7 @@ use block_store::{Locked, MemDevice, SharedDevice};
 use live::{EndLook, Live, Opened, Pass, Report, Roll, Unnamed, Worker, work_together};
 use machine::command::{Actor, Command, Reply};
 use machine::config::Config;
+use machine::page_size::PageSize;
 use printer::{Options, paths_of, write_bytes};
 use script_faults::{
     Fault, MOST_ACTORS, Wanted, faulty, new_device, read_script, status_of, unwritten, wanted_by,
@@ -330,16 +331,17 @@ fn say<O: Write>(
 fn show<O: Write>(
     alloc: Global,
     wanted: Wanted,
+    page_size: PageSize,
     missing: Missing,
     paths: &[&str],
     looks: &[Option<EndLook>],
     out: &mut O,
 ) -> Result<(), Fault>
     requires { length looks.now ≡ length paths.now }
-    ensures whole { OnOk result (Appends (O.contents out.old) (O.contents out.new) (looks_text missing (map (λ p. p.now) paths.now) looks.now)) }
+    ensures whole { OnOk result (Appends (O.contents out.old) (O.contents out.new) (looks_text page_size.bytes missing (map (λ p. p.now) paths.now) looks.now)) }
     ensures why { IfErr result IsRunFault }
 {
-    match write_looks(alloc, missing, paths, looks, out) {
+    match write_looks(alloc, page_size, missing, paths, looks, out) {
         Ok(()) => Ok(()),
         Err(error) => Err(unwritten(wanted, error)),
     }
@@ -366,10 +368,11 @@ fn conclude<L: Opened, D: SharedDevice + Drop, O: Write>(
         live.give_up(roll);
         return Err(Fault::Memory(wanted));
     }
+    let page_size = live.page_size();
     match live.finish_with_looks(passes, roll, paths, room) {
         Ok((report, looks)) => {
             notes.count_moved(report.trace.entries());
-            show(alloc, wanted, missing, paths, &looks, out)?;
+            show(alloc, wanted, page_size, missing, paths, &looks, out)?;
             say(alloc, wanted, verdict_of(&report), out)
         }
         Err((live, _passes, _cause, roll)) => {

@@ -189,11 +189,11 @@ TaskDid reply.Killed transition = transition ≡ ends_with word.Killed
 TaskDid (reply.Refused why) transition = transition ≡ ends_refused why
 TaskDid said transition = ⊥
 
--- a control file is shown as its text
-abbrev pub WasShown : Reply → Transition → Type 0
-WasShown (reply.Shown numbers) transition = transition ≡ Ends (answer.Text (text_of numbers))
-WasShown (reply.Refused why) transition = transition ≡ ends_refused why
-WasShown said transition = ⊥
+-- a control file is shown as its text, with pages of this size. (Excludes a text with pages that always have 4,096 bytes.)
+abbrev pub WasShown : ℕ → Reply → Transition → Type 0
+WasShown page_size (reply.Shown numbers) transition = transition ≡ Ends (answer.Text (text_of page_size numbers))
+WasShown page_size (reply.Refused why) transition = transition ≡ ends_refused why
+WasShown page_size said transition = ⊥
 
 -- what is told of a kill
 abbrev pub kill_answer : Kill → Answer
@@ -219,22 +219,22 @@ Closed resumed said transition = ⊥
 abbrev pub arrived : Access → Access
 arrived access = record access { fetched = true }
 
--- what a command makes of the reply, by what it remembers. (Excludes a command that ends at a kill, tries again without room, takes a max back, or ends a transfer that the
+-- what a command makes of the reply, by what it remembers, with pages of this size in texts. (Excludes a command that ends at a kill, tries again without room, takes a max back, or ends a transfer that the
 -- device was not asked for.)
-abbrev pub Told : Pending → Reply → Transition → Type 0
-Told (pending.Try access) said transition = Tried access said transition
-Told (pending.MakeRoom access why) said transition = MadeRoom access why said transition
-Told (pending.SetMax g) said transition = MaxSet g.0 said transition
-Told (pending.Lower g) said transition = Lowered g.0 said transition
-Told (pending.Reclaim g left) said transition = Reclaimed g.0 left said transition
-Told pending.Balance said transition = Balanced said transition
-Told pending.Make said transition = Made said transition
-Told pending.OfTask said transition = TaskDid said transition
-Told pending.Show said transition = WasShown said transition
-Told (pending.Arrive access) said transition = Closed (Goes (stage.Try (arrived access))) said transition
-Told pending.FetchFail said transition = Closed (ends_with word.Io) said transition
-Told (pending.Leave on) said transition = Closed (Goes (resumes_at on)) said transition
-Told pending.LeaveFail said transition = Closed (ends_with word.Io) said transition
+abbrev pub Told : ℕ → Pending → Reply → Transition → Type 0
+Told page_size (pending.Try access) said transition = Tried access said transition
+Told page_size (pending.MakeRoom access why) said transition = MadeRoom access why said transition
+Told page_size (pending.SetMax g) said transition = MaxSet g.0 said transition
+Told page_size (pending.Lower g) said transition = Lowered g.0 said transition
+Told page_size (pending.Reclaim g left) said transition = Reclaimed g.0 left said transition
+Told page_size pending.Balance said transition = Balanced said transition
+Told page_size pending.Make said transition = Made said transition
+Told page_size pending.OfTask said transition = TaskDid said transition
+Told page_size pending.Show said transition = WasShown page_size said transition
+Told page_size (pending.Arrive access) said transition = Closed (Goes (stage.Try (arrived access))) said transition
+Told page_size pending.FetchFail said transition = Closed (ends_with word.Io) said transition
+Told page_size (pending.Leave on) said transition = Closed (Goes (resumes_at on)) said transition
+Told page_size pending.LeaveFail said transition = Closed (ends_with word.Io) said transition
 
 -- ---- which hits leave a mark
 
@@ -253,9 +253,9 @@ marks_hit placement (pending.Try access) = marks_by placement access
 marks_hit placement remembers = true
 
 -- memory for a control file's text was refused, and everything else was there
-pub record WantsText (remembers : Pending) (said : Reply) : Type 0 where
+pub record WantsText (page_size : ℕ) (remembers : Pending) (said : Reply) : Type 0 where
   pub text : List ℕ
-  pub told : Told remembers said (Ends (answer.Text text))
+  pub told : Told page_size remembers said (Ends (answer.Text text))
 
 -- the replies that can come
 abbrev pub Awaits : Pending → Reply → Type 0
@@ -350,10 +350,10 @@ writes_file opening g text file.Current = Err Invalid
 writes_file opening g text file.Events = Err Invalid
 writes_file opening g text file.EventsLocal = Err Invalid
 writes_file opening g text file.Stat = Err Invalid
-writes_file opening g text file.Max = with_amount (amount_of text) (λ max. Ok (stage.SetMax (record { 0 = g }) max))
-writes_file opening g text (file.Guard guard) = with_amount (amount_of text) (λ amount. Ok (stage.SetGuard (record { 0 = g }) guard amount))
+writes_file opening g text file.Max = with_amount (amount_of opening.page_size text) (λ max. Ok (stage.SetMax (record { 0 = g }) max))
+writes_file opening g text (file.Guard guard) = with_amount (amount_of opening.page_size text) (λ amount. Ok (stage.SetGuard (record { 0 = g }) guard amount))
 writes_file opening g text file.OomGroup = with_flag (flag_written opening.placement text) (λ flag. Ok (stage.SetOomGroup (record { 0 = g }) flag))
-writes_file opening g text file.Reclaim = with_amount (amount_of text) (reclaims g)
+writes_file opening g text file.Reclaim = with_amount (amount_of opening.page_size text) (reclaims g)
 
 -- a command of a task; one that is none of a task's is Invalid
 abbrev pub task_judged : ℕ → Command → Judged

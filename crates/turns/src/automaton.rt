@@ -13,6 +13,7 @@ use machine::command::{Answer, Word};
 use machine::config::Watermarks;
 use machine::event::{Cause, Op, Setting};
 use machine::id::GroupId;
+use machine::page_size::PageSize;
 use machine::refusal::Refusal;
 use machine::text::Text;
 use std::alloc::{AllocError, Global};
@@ -132,14 +133,19 @@ fn balance(marks: Watermarks, free: u32) -> Want
 }
 
 /// What a command makes of the book's reply. A ticket that the reply hands out stays with the command, and one that was
-/// handed back is spent. It fails only if memory is refused for a control file's text.
-pub fn told(alloc: Global, pending: Pending, reply: Reply) -> Result<Transition, AllocError>
+/// handed back is spent. A text has pages of this size. It fails only if memory is refused for a control file's text.
+pub fn told(
+    alloc: Global,
+    page_size: PageSize,
+    pending: Pending,
+    reply: Reply,
+) -> Result<Transition, AllocError>
     requires awaits { Awaits pending reply }
     requires handed { IsHanded reply }
-    ensures told { IfOk result (λ transition. Told pending reply transition) }
+    ensures told { IfOk result (λ transition. Told page_size.bytes pending reply transition) }
     ensures holds { IfOk result (λ transition. holds_after transition ≡ gives_ticket reply) }
     ensures own { (worker blocks : ℕ) → OwnReply worker blocks reply → IfOk result (λ transition. OwnTransition worker blocks transition) }
-    ensures err { OnErr result (WantsText pending reply) }
+    ensures err { OnErr result (WantsText page_size.bytes pending reply) }
     ensures quiet { OnErr result (gives_ticket reply ≡ false) }
 {
     match pending {
@@ -151,7 +157,7 @@ pub fn told(alloc: Global, pending: Pending, reply: Reply) -> Result<Transition,
         Pending::Balance => Ok(balanced(reply)),
         Pending::Make => Ok(made(reply)),
         Pending::OfTask => Ok(task_did(reply)),
-        Pending::Show => shown(alloc, reply),
+        Pending::Show => shown(alloc, page_size, reply),
         Pending::Arrive(access) => Ok(arrived(access, reply)),
         Pending::FetchFail => Ok(fetch_failed(reply)),
         Pending::Leave(resume) => Ok(left(resume, reply)),
@@ -387,16 +393,16 @@ fn task_did(reply: Reply) -> Transition
     }
 }
 
-fn shown(alloc: Global, reply: Reply) -> Result<Transition, AllocError>
+fn shown(alloc: Global, page_size: PageSize, reply: Reply) -> Result<Transition, AllocError>
     requires { IsShownReply reply }
-    ensures told { IfOk result (λ transition. WasShown reply transition) }
+    ensures told { IfOk result (λ transition. WasShown page_size.bytes reply transition) }
     ensures holds { IfOk result (λ transition. holds_after transition ≡ gives_ticket reply) }
     ensures own { (worker blocks : ℕ) → IfOk result (λ transition. OwnTransition worker blocks transition) }
-    ensures err { OnErr result (WantsText Pending.Show reply) }
+    ensures err { OnErr result (WantsText page_size.bytes Pending.Show reply) }
     ensures quiet { OnErr result (gives_ticket reply ≡ false) }
 {
     match reply {
-        Reply::Shown(numbers) => match show_text(alloc, numbers) {
+        Reply::Shown(numbers) => match show_text(alloc, page_size, numbers) {
             Ok(text) => Ok(Transition::Ends(Answer::Text(Text::new(text)))),
             // It fails only if memory is refused.
             Err(_) => Err(AllocError),

@@ -7,8 +7,8 @@ pub returns : goal.returns
 returns c =
     let common = c.args.common in
     let old : List ℕ = c.args.text.now.items in
-    let cells : List ℕ = cells_text common.line c.args.path.now c.args.look c.args.stat in
-    let machine : List ℕ = machine_text common.machine in
+    let cells : List ℕ = cells_text common.page_size.bytes common.line c.args.path.now c.args.look c.args.stat in
+    let machine : List ℕ = machine_text common.page_size.bytes common.machine in
     let last : List ℕ = end_text common.phase.now in
     on_ok c.add_phase.result c.add_phase.ensures
     (λ e. e

@@ -6,5 +6,5 @@ use Rattle.charts.proofs.listing.add_row.Given as goal
 
 abbrev pub invariant-loop-left : goal.invariant-loop-left
 invariant-loop-left l = (rest : List Seen) →
-    l.fn.text.items ++ steps_text (drop l.step l.lines) (map (λ (p : Bor (List ℕ)). p.now) l.phases) (map (λ (p : Bor (List ℕ)). p.now) l.paths) (replicate l.row.steps (seen_of l.row) ++ rest)
-    ≡ l.text.items ++ steps_text (drop l.next l.lines) (map (λ (p : Bor (List ℕ)). p.now) l.phases) (map (λ (p : Bor (List ℕ)). p.now) l.paths) (replicate (l.row.steps - l._left) (seen_of l.row) ++ rest)
+    l.fn.text.items ++ steps_text l.page_size.bytes (drop l.step l.lines) (map (λ (p : Bor (List ℕ)). p.now) l.phases) (map (λ (p : Bor (List ℕ)). p.now) l.paths) (replicate l.row.steps (seen_of l.row) ++ rest)
+    ≡ l.text.items ++ steps_text l.page_size.bytes (drop l.next l.lines) (map (λ (p : Bor (List ℕ)). p.now) l.phases) (map (λ (p : Bor (List ℕ)). p.now) l.paths) (replicate (l.row.steps - l._left) (seen_of l.row) ++ rest)

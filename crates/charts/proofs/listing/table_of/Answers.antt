@@ -13,5 +13,5 @@ returns c =
     let phases : List (List ℕ) = map (λ (p : Bor (List ℕ)). p.now) c.args.phases.now in
     let paths : List (List ℕ) = map (λ (p : Bor (List ℕ)). p.now) c.args.paths.now in
     let rows : List Row = c.args.rows.now in
-    all_listed head c.loop-at.text.items (steps_text lines phases paths (expanded rows)) (steps_text (drop c.loop-at.step lines) phases paths (expanded (drop c.loop-at.at rows))) c.loop-at.invariant
-    (ap (λ (left : List Row). steps_text (drop c.loop-at.step lines) phases paths (expanded left)) (drop_all c.loop-at.at rows c.loop-at-test.false) ∙ rows-over (drop c.loop-at.step lines) phases paths)
+    all_listed head c.loop-at.text.items (steps_text c.args.page_size.bytes lines phases paths (expanded rows)) (steps_text c.args.page_size.bytes (drop c.loop-at.step lines) phases paths (expanded (drop c.loop-at.at rows))) c.loop-at.invariant
+    (ap (λ (left : List Row). steps_text c.args.page_size.bytes (drop c.loop-at.step lines) phases paths (expanded left)) (drop_all c.loop-at.at rows c.loop-at-test.false) ∙ rows-over c.args.page_size.bytes (drop c.loop-at.step lines) phases paths)

@@ -6,5 +6,5 @@ use Rattle.charts.proofs.listing.table_of.Given as goal
 
 abbrev pub invariant-loop-at : goal.invariant-loop-at
 invariant-loop-at l =
-    head ++ steps_text l.lines (map (λ (p : Bor (List ℕ)). p.now) l.phases) (map (λ (p : Bor (List ℕ)). p.now) l.paths) (expanded l.rows)
-    ≡ l.text.items ++ steps_text (drop l.step l.lines) (map (λ (p : Bor (List ℕ)). p.now) l.phases) (map (λ (p : Bor (List ℕ)). p.now) l.paths) (expanded (drop l.at l.rows))
+    head ++ steps_text l.page_size.bytes l.lines (map (λ (p : Bor (List ℕ)). p.now) l.phases) (map (λ (p : Bor (List ℕ)). p.now) l.paths) (expanded l.rows)
+    ≡ l.text.items ++ steps_text l.page_size.bytes (drop l.step l.lines) (map (λ (p : Bor (List ℕ)). p.now) l.phases) (map (λ (p : Bor (List ℕ)). p.now) l.paths) (expanded (drop l.at l.rows))

@@ -1,16 +1,12 @@
-use Rattle.std.proofs.Common.{rules, ◌≡◌, ◌≢◌, ◌∙◌, ℕ, Some, List, sym, ap, subst, arith}
+use Rattle.std.proofs.Common.{rules, ◌∙◌, ℕ, List, sym, ap, subst, arith}
 use Rattle.machine.specs.Tree.{Node, node_at, IsTree}
 use Rattle.pages.specs.PagesOf.{PagesOf, labelled}
-use Rattle.group_tree.specs.Lineages.{IsLineage}
 use Rattle.group_tree.proofs.LineageLemmas.{live-within}
 use Rattle.page_state.proofs.RemovalLemmas.{framed-out, hands-none, hands-more, hands-fewer, hands-all}
 use Rattle.page_state.proofs.removal.reparent.Goals as goal
 
-apart : (tree : List Node) (g parent : ℕ) → IsLineage tree → (node_at tree g).parent ≡ Some parent → parent ≢ g
-apart tree g parent is below same = let less = is.earlier_parents.falls g parent below in omega (arith, less, same)
-
 pub loop-page-init : goal.loop-page-init
-loop-page-init c = hands-none c.args.group.0 c.args.parent.0 c.args.counters.now c.args.pages.now c.requires.counted
+loop-page-init c = hands-none c.args.placement c.args.group.0 c.args.parent.0 c.args.counters.now c.args.pages.now c.requires.counted
 
 pub reparent-requires-clause-there : goal.reparent-requires-clause-there
 reparent-requires-clause-there c =
@@ -37,8 +33,8 @@ loop-page-smaller c =
     let is = c.are_counted.ensures.lineage in
     let tree = c.loop-page.invariant.same.tree in
     let live = is.parents_live c.args.group.0 c.args.parent.0 c.requires.live c.requires.below in
-    hands-fewer c.args.group.0 c.args.parent.0 (apart c.args.counters.now.tree c.args.group.0 c.args.parent.0 is c.requires.below) c.args.counters.now c.loop-page.counters c.reparent.new.counters c.args.pages.now c.loop-page.pages c.reparent.new.self
-    c.in-Some.page.0 (labelled own.0 own.1) own.3 own.2 (moves.moved _ own.2) moves.bytes moves.others is.earlier_parents c.requires.below live moves.groups (moves.charged _ own.2) (moves.uncharged _ own.2)
+    hands-fewer c.args.placement c.args.group.0 c.args.parent.0 (is.earlier_parents.falls c.args.group.0 c.args.parent.0 c.requires.below) c.args.counters.now c.loop-page.counters c.reparent.new.counters c.args.pages.now c.loop-page.pages c.reparent.new.self
+    c.in-Some.page.0 (labelled own.0 own.1) own.3 own.2 (moves.moved _ own.2) moves.bytes moves.others is.earlier_parents c.requires.below is.root_first live moves.groups (moves.charged _ own.2) (moves.uncharged _ own.2)
 
 pub loop-page-preserved : goal.loop-page-preserved
 loop-page-preserved c =
@@ -46,8 +42,8 @@ loop-page-preserved c =
     let moves = c.reparent.ensures in
     let is = c.are_counted.ensures.lineage in
     let live = is.parents_live c.args.group.0 c.args.parent.0 c.requires.live c.requires.below in
-    hands-more c.args.group.0 c.args.parent.0 (apart c.args.counters.now.tree c.args.group.0 c.args.parent.0 is c.requires.below) c.args.counters.now c.loop-page.counters c.reparent.new.counters c.args.pages.now c.loop-page.pages c.reparent.new.self
-    c.in-Some.page.0 (labelled own.0 own.1) own.3 own.2 (moves.moved _ own.2) moves.bytes moves.others is.earlier_parents c.requires.below live moves.groups (moves.charged _ own.2) (moves.uncharged _ own.2) c.loop-page.invariant
+    hands-more c.args.placement c.args.group.0 c.args.parent.0 (is.earlier_parents.falls c.args.group.0 c.args.parent.0 c.requires.below) c.args.counters.now c.loop-page.counters c.reparent.new.counters c.args.pages.now c.loop-page.pages c.reparent.new.self
+    c.in-Some.page.0 (labelled own.0 own.1) own.3 own.2 (moves.moved _ own.2) moves.bytes moves.others is.earlier_parents c.requires.below is.root_first live moves.groups (moves.charged _ own.2) (moves.uncharged _ own.2) c.loop-page.invariant
 
 pub returns-clause-pages : goal.returns-clause-pages
-returns-clause-pages c = hands-all c.args.group.0 c.args.parent.0 c.args.counters.now c.loop-page.counters c.args.pages.now c.loop-page.pages c.loop-page.invariant (c.first_of.ensures.none (search rules))
+returns-clause-pages c = hands-all c.args.placement c.args.group.0 c.args.parent.0 c.args.counters.now c.loop-page.counters c.args.pages.now c.loop-page.pages c.loop-page.invariant (c.first_of.ensures.none (search rules))

@@ -6,7 +6,7 @@ use Rattle.printer.specs.Amounts.{rows_in}
 use Rattle.printer.proofs.amounts.add_rows.Given as goal
 
 abbrev pub invariant-loop-row : goal.invariant-loop-row
-invariant-loop-row l = shadow (Utf8 l.rest) × (string_bytes l.text ++ rows_in l.amounts [] l.rest ≡ string_bytes l.fn.text ++ rows_in l.amounts [] l.said)
+invariant-loop-row l = shadow (Utf8 l.rest) × (string_bytes l.text ++ rows_in l.page_size.bytes l.amounts [] l.rest ≡ string_bytes l.fn.text ++ rows_in l.page_size.bytes l.amounts [] l.said)
 
 abbrev pub decreases-loop-row : goal.decreases-loop-row
 decreases-loop-row l = length l.rest

@@ -13,5 +13,5 @@ loop-at-preserved g c =
     let looks : List (Option EndLook) = c.args.looks.now in
     let none : Bor (List ℕ) = record { ref_ptr = (0, 0); now = [] } in
     let i : ℕ = c.loop-at.at in
-    subst (Appends (g.O.Write.contents c.args.out.now) (g.O.Write.contents c.write_look.new.out)) (sym (looks-taken c.args.missing paths looks none i c.loop-at-test.true c.requires))
-    (Appends-trans _ _ _ (looks_text c.args.missing (map (λ (p : Bor (List ℕ)). p.now) (take i paths)) (take i looks)) (look_text c.args.missing (get_or paths i none).now (get_or looks i None)) c.loop-at.invariant c.in_ok-write_look.ensures)
+    subst (Appends (g.O.Write.contents c.args.out.now) (g.O.Write.contents c.write_look.new.out)) (sym (looks-taken c.args.page_size.bytes c.args.missing paths looks none i c.loop-at-test.true c.requires))
+    (Appends-trans _ _ _ (looks_text c.args.page_size.bytes c.args.missing (map (λ (p : Bor (List ℕ)). p.now) (take i paths)) (take i looks)) (look_text c.args.page_size.bytes c.args.missing (get_or paths i none).now (get_or looks i None)) c.loop-at.invariant c.in_ok-write_look.ensures)

@@ -6,4 +6,4 @@ use Rattle.turns.specs.Turns.{WantsText}
 use Rattle.turns.proofs.automaton.shown.Goals as goal
 
 pub returns-in-Err-clause-err : goal.returns-in-Err-clause-err
-returns-in-Err-clause-err c = subst (λ (said : Reply). WantsText Show said) (sym c.in-Shown.is) (record { text = text_of c.in-Shown.numbers; told = refl })
+returns-in-Err-clause-err c = subst (λ (said : Reply). WantsText c.args.page_size.bytes Show said) (sym c.in-Shown.is) (record { text = text_of c.args.page_size.bytes c.in-Shown.numbers; told = refl })

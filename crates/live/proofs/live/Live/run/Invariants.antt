@@ -9,7 +9,7 @@ abbrev pub invariant-loop-turn : goal.invariant-loop-turn
 invariant-loop-turn g l = record {
   can : (goal.iterator-loop-turn g).can_next l._turn-iterator;
   finite : (goal.iterator-loop-turn g).is_finite l._turn-iterator;
-  under : Under g.L.Opened.opening.watermarks l.actor l.initial.stage l.fn.pass.exchanges l.pass.exchanges l.fn.answers.items l.answers.items l.stage;
+  under : Under g.L.Opened.opening l.actor l.initial.stage l.fn.pass.exchanges l.pass.exchanges l.fn.answers.items l.answers.items l.stage;
   own : OwnStage l.pass.caller.worker (blocks_in g.L.Opened.opening) l.stage;
   hand : HasStage l.pass.exchanges l.stage;
   caller : l.pass.caller ≡ l.fn.pass.caller;

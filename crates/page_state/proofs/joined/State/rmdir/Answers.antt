@@ -34,7 +34,7 @@ remove-requires-clause-uncharged c =
     let parent : (node_at s.tree g).parent ≡ Some c.in-Some.parent.0 = sym c.parent.ensures.parent ∙ ap (λ (o : Option GroupId). option_map (λ (x : GroupId). x.0) o) c.in-Some.is in
     let below = c.self.invariant.held_kin.parents g ∙ parent in
     let up = c.reparent.ensures in
-    usage-left s.parts c.self.invariant.agree g c.in-Some.parent.0 c.reparent.new.counters c.reparent.new.counters c.reparent.new.pages c.take_over.new.self up.pages up.others up.groups up.counted c.are_counted.ensures.lineage below live childless c.take_over.ensures
+    usage-left s.config.placement s.parts c.self.invariant.agree g c.in-Some.parent.0 c.reparent.new.counters c.reparent.new.counters c.reparent.new.pages c.take_over.new.self up.pages up.others up.groups up.counted c.are_counted.ensures.lineage below live childless c.take_over.ensures
 
 pub remove-requires-2-clause-childless : goal.remove-requires-2-clause-childless
 remove-requires-2-clause-childless c =
@@ -53,7 +53,7 @@ invariant_of-self c =
     let parent : (node_at s.tree g).parent ≡ Some c.in-Some.parent.0 = sym c.parent.ensures.parent ∙ ap (λ (o : Option GroupId). option_map (λ (x : GroupId). x.0) o) c.in-Some.is in
     let below = c.self.invariant.held_kin.parents g ∙ parent in
     let up = c.reparent.ensures in
-    let agree = agree-removed s.parts c.self.invariant.agree g c.in-Some.parent.0 c.reparent.new.counters c.remove.new.self c.reparent.new.pages c.take_over.new.self up.pages up.others up.groups up.counted c.are_counted.ensures.lineage below live childless c.take_over.ensures c.remove.ensures.tree c.remove.ensures.usage in
+    let agree = agree-removed s.config.placement s.parts c.self.invariant.agree g c.in-Some.parent.0 c.reparent.new.counters c.remove.new.self c.reparent.new.pages c.take_over.new.self up.pages up.others up.groups up.counted c.are_counted.ensures.lineage below live childless c.take_over.ensures c.remove.ensures.tree c.remove.ensures.usage in
     joined-gone s c.self.invariant g c.in-Some.parent.0 may c.reparent.new.pages c.remove.new.self c.take_over.new.self agree up.pages up.others (c.remove.ensures.tree ∙ ap (λ (t : List Node). without_group t g) up.groups.tree) c.remove-3.new.self c.remove-3.ensures.cursors c.remove-2.new.self c.remove-2.ensures.tree c.rmdir.new.self c.rmdir.ensures
 
 pub returns : goal.returns
@@ -66,7 +66,7 @@ returns c =
     let parent : (node_at s.tree g).parent ≡ Some c.in-Some.parent.0 = sym c.parent.ensures.parent ∙ ap (λ (o : Option GroupId). option_map (λ (x : GroupId). x.0) o) c.in-Some.is in
     let below = c.self.invariant.held_kin.parents g ∙ parent in
     let up = c.reparent.ensures in
-    let agree = agree-removed s.parts c.self.invariant.agree g c.in-Some.parent.0 c.reparent.new.counters c.remove.new.self c.reparent.new.pages c.take_over.new.self up.pages up.others up.groups up.counted c.are_counted.ensures.lineage below live childless c.take_over.ensures c.remove.ensures.tree c.remove.ensures.usage in
+    let agree = agree-removed s.config.placement s.parts c.self.invariant.agree g c.in-Some.parent.0 c.reparent.new.counters c.remove.new.self c.reparent.new.pages c.take_over.new.self up.pages up.others up.groups up.counted c.are_counted.ensures.lineage below live childless c.take_over.ensures c.remove.ensures.tree c.remove.ensures.usage in
     rw (← c.self.view_is)
     (removes-group s c.self.invariant g c.in-Some.parent.0 may c.reparent.new.pages c.remove.new.self c.take_over.new.self agree up.pages up.others (c.remove.ensures.tree ∙ ap (λ (t : List Node). without_group t g) up.groups.tree) c.remove-3.new.self c.remove-3.ensures.cursors c.remove-2.new.self c.remove-2.ensures.tree c.rmdir.new.self c.rmdir.ensures
     parent (c.remove.ensures.limits ∙ up.groups.limits) up.bytes c.take_over.ensures c.remove-2.ensures.counted)

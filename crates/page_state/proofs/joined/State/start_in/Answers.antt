@@ -39,9 +39,9 @@ start_in-ticket-requires c =
     let h = s.parts in
     let is = c.self.invariant.agree in
     let room = c.take_room-frame.ensures in
-    let readable = subst (λ (s : StateOf). IsReadable s.tables.pages (files_of s.tables.opening) c.args.from c.args.group.0) (sym c.self.view_is) c.requires.readable in
+    let readable = subst (λ (s : StateOf). IsReadable s.tables.pages (files_of s.tables.opening) c.args.from) (sym c.self.view_is) c.requires.readable in
     record {
-      readable = subst (IsReadable h.pages.pages h.pages.files c.args.from) (sym room.group) (subst (λ (files : FilesOf). IsReadable h.pages.pages files c.args.from c.args.group.0) (sym (files-opened s c.self.invariant)) readable);
+      readable = subst (λ (files : FilesOf). IsReadable h.pages.pages files c.args.from) (sym (files-opened s c.self.invariant)) readable;
       room = λ new. number-free h is c.are_filed.ensures (granted-some c.self.inside.parts c.self.invariant.agree c.args.group.0 (seen-granted c.self.inside c.self.invariant _ c.self.view_is c.args.group.0 c.requires.room));
       group = subst (λ n. c.take_room-frame.result.1 < n) (sym is.page_groups) (subst (λ g. g < length h.counters.tree) (sym room.group) (live-within h.counters.tree c.args.group.0 (seen-live c.self.inside c.self.invariant _ c.self.view_is c.args.group.0 c.requires.live)));
       unused = (granted-frame h is c.take_room-frame.new.counters c.take_room-frame.new.pool _ _ _ room).1;

@@ -16,7 +16,7 @@ use Rattle.held_pages.proofs.PickLemmas.{usable-within}
 use Rattle.page_state.specs.States.{StateOf}
 use Rattle.page_state.specs.Joined.{joined_of}
 use Rattle.page_state.proofs.NextLemmas.{listed_by, given-usable}
-use Rattle.page_state.proofs.TurnLemmas.{served-live, served-below, turn-after}
+use Rattle.page_state.proofs.TurnLemmas.{serves-listed, turn-after}
 use Rattle.page_state.proofs.LeaveLemmas.{picks-of, agree-searched, leaves-swap, joined-left, takes-page}
 use Rattle.page_state.proofs.joined.State.take_out.Goals as goal
 
@@ -57,17 +57,15 @@ serve-requires-clause-cursor c =
     let all = c.self.invariant.cursors in
     omega (arith, within, all)
 
-pub serve-requires-clause-live : goal.serve-requires-clause-live
-serve-requires-clause-live c =
+pub serve-requires-clause-served : goal.serve-requires-clause-served
+serve-requires-clause-served c =
     let live = subst (λ (s : StateOf). is_live s.tables.tree c.args.target.0 ≡ true) (sym c.self.view_is) c.requires.live in
     let serves = subst (λ (s : StateOf). served s.tables s.order c.args.goal c.args.target.0 ≡ Some c.args.group.0) (sym c.self.view_is) c.requires.next in
-    served-live c.self.inside c.self.invariant c.groups_form_a_tree.ensures c.args.goal c.args.target.0 c.args.group.0 live serves
-
-pub serve-requires-clause-under : goal.serve-requires-clause-under
-serve-requires-clause-under c =
-    let live = subst (λ (s : StateOf). is_live s.tables.tree c.args.target.0 ≡ true) (sym c.self.view_is) c.requires.live in
-    let serves = subst (λ (s : StateOf). served s.tables s.order c.args.goal c.args.target.0 ≡ Some c.args.group.0) (sym c.self.view_is) c.requires.next in
-    served-below c.self.inside c.self.invariant c.groups_form_a_tree.ensures c.args.goal c.args.target.0 c.args.group.0 live serves
+    let swap = subst (λ (s : StateOf). c.has_swap-swap_free.result ≡ is_swap_free s.tables) (sym c.self.view_is) c.has_swap-swap_free.ensures in
+    let recursive = subst (λ (s : StateOf). c.is_recursive-recursive.result ≡ s.tables.opening.recursive) (sym c.self.view_is) c.is_recursive-recursive.ensures in
+    serves-listed c.self.inside c.self.invariant c.groups_form_a_tree.ensures c.args.goal c.args.target.0 c.args.group.0 live serves
+    c.is_recursive-recursive.result c.gens.result.now.groups c.marks.result.now c.has_swap-swap_free.result c.heeds_age-heeds_age.result c.takes_parts-takes_parts.result
+    recursive c.gens.ensures.groups c.marks.ensures.marks swap c.heeds_age-heeds_age.ensures c.takes_parts-takes_parts.ensures
 
 pub pick-page-requires-clause-group : goal.pick-page-requires-clause-group
 pick-page-requires-clause-group c =

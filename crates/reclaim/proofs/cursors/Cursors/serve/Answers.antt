@@ -4,8 +4,15 @@ use Rattle.std.proofs.lemmas.List.{map-set, length-map, get_or-map}
 use Rattle.machine.specs.Order as order
 use Rattle.machine.specs.Order.{no_cursor, cursor_at}
 use Rattle.reclaim.specs.Cursors.{cursor_of}
-use Rattle.reclaim.specs.Pass.{cursor_by}
+use Rattle.reclaim.specs.Pass.{in_second, cursor_by}
+use Rattle.reclaim.proofs.PassLemmas.{first-serves}
 use Rattle.reclaim.proofs.cursors.Cursors.serve.Goals as goal
+
+pub turn_after-requires-clause-live : goal.turn_after-requires-clause-live
+turn_after-requires-clause-live c = (first-serves c.args.scan (in_second c.args.scan c.args.group.0) c.groups_form_a_tree.ensures _ c.args.scan.heeds_age c.args.group.0 c.requires.served).live
+
+pub turn_after-requires-clause-under : goal.turn_after-requires-clause-under
+turn_after-requires-clause-under c = (first-serves c.args.scan (in_second c.args.scan c.args.group.0) c.groups_form_a_tree.ensures _ c.args.scan.heeds_age c.args.group.0 c.requires.served).below
 
 pub returns-clause-cursors : goal.returns-clause-cursors
 returns-clause-cursors c =

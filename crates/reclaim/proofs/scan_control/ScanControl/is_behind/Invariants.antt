@@ -1,4 +1,4 @@
-use Rattle.std.proofs.Common.{◌≡◌, ℕ, ◌==◌}
+use Rattle.std.proofs.Common.{◌≡◌, ◌==◌}
 use Rattle.std.specs.List.{list_any}
 use Rattle.machine.specs.Order.{is_behind}
 use Rattle.group_tree.specs.Tables.{number}
