@@ -1,7 +1,8 @@
 //! Readers and writers that fail, that give and take little at a time, or that never end.
 
-use std::io;
+use std::alloc::Global;
 use std::io::{Error, ErrorKind, Read, Write};
+use std::{io, str};
 use subcommands::{Options, SCRIPT_BYTES, read_and_check, schedule};
 
 const OVER_LIMIT: &str = "\
@@ -93,25 +94,19 @@ fn is_one_line(text: &[u8]) -> bool {
 #[test]
 fn a_read_that_fails_runs_nothing(rt: HostRuntime) {
     let alloc = rt.alloc();
-    for text in ["", "foo\n", OVER_LIMIT] {
+    for text in ["", "foo\n", OVER_LIMIT].iter() {
         let mut out = Vec::new(alloc);
         let mut err = Vec::new(alloc);
         let mut script = Torn {
             bytes: text.as_bytes(),
         };
-        assert_eq!(rt;
-            schedule(alloc, &mut script, &mut out, &mut err),
-            1,
-            "after {text}"
-        );
-        assert!(rt; out.is_empty(), "after {text}");
-        let err = std::str::from_utf8(&err).unwrap_or("no text");
-        assert_eq!(rt;
-            err,
-            "the script can't be read: broken pipe\n",
-            "after {text}"
-        );
+        let status = schedule(alloc, &mut script, &mut out, &mut err);
         let Torn { bytes: _ } = script;
+        assert_eq!(rt;
+            (status, out.len(), str::from_utf8(&err)),
+            (1, 0, Ok("the script can't be read: broken pipe\n")),
+            "after {text}"
+        );
     }
 }
 
@@ -123,34 +118,37 @@ fn a_script_may_come_in_pieces(rt: HostRuntime) {
     let mut script = Trickle {
         bytes: OVER_LIMIT.as_bytes(),
     };
-    assert_eq!(rt; schedule(alloc, &mut script, &mut out, &mut err), 0);
-    assert_eq!(rt; std::str::from_utf8(&out), Ok(PRINTED));
-    assert!(rt; err.is_empty());
+    let status = schedule(alloc, &mut script, &mut out, &mut err);
     let Trickle { bytes: _ } = script;
+    assert_eq!(rt;
+        (status, str::from_utf8(&out), err.len()),
+        (0, Ok(PRINTED), 0)
+    );
 }
+
+const TOO_LONG: &str = "the script has more than 64 MiB\n";
+
+const LENGTHS: &[(u64, &str)] = &[
+    (SCRIPT_BYTES, "line 1: unknown word\n"),
+    (SCRIPT_BYTES + 1, TOO_LONG),
+    (u64::MAX, TOO_LONG),
+];
 
 // The fault of the first line is found before the rest is read as a script, so that this is fast.
 #[test]
 fn a_script_has_at_most_64_mebibytes(rt: HostRuntime) {
     let alloc = rt.alloc();
-    let too_long = "the script has more than 64 MiB\n";
-    let rows = [
-        (SCRIPT_BYTES, "line 1: unknown word\n"),
-        (SCRIPT_BYTES + 1, too_long),
-        (u64::MAX, too_long),
-    ];
-    for (bytes, line) in rows {
+    for (bytes, line) in LENGTHS {
         let mut out = Vec::new(alloc);
         let mut err = Vec::new(alloc);
         let endless = "foo\n".as_bytes().chain(io::repeat(b'#'));
-        let mut script = endless.take(bytes);
+        let mut script = endless.take(*bytes);
+        let status = schedule(alloc, &mut script, &mut out, &mut err);
         assert_eq!(rt;
-            schedule(alloc, &mut script, &mut out, &mut err),
-            1,
+            (status, out.len(), str::from_utf8(&err)),
+            (1, 0, Ok(*line)),
             "{bytes} bytes"
         );
-        assert!(rt; out.is_empty(), "{bytes} bytes");
-        assert_eq!(rt; std::str::from_utf8(&err), Ok(line), "{bytes} bytes");
     }
 }
 
@@ -163,9 +161,9 @@ fn a_write_that_fails_ends_with_status_1(rt: HostRuntime) {
         let mut script = OVER_LIMIT.as_bytes();
         let fits = room == PRINTED.len();
         let status = schedule(alloc, &mut script, &mut out, &mut err);
-        assert_eq!(rt; status, if fits { 0 } else { 1 }, "room for {room}");
-        assert_eq!(rt; is_one_line(&err), !fits, "room for {room}");
         let Full { room: _ } = out;
+        let wanted = if fits { (0, false) } else { (1, true) };
+        assert_eq!(rt; (status, is_one_line(&err)), wanted, "room for {room}");
     }
 }
 
@@ -188,9 +186,9 @@ fn nothing_is_said_where_nobody_reads_any_more(rt: HostRuntime) {
     let mut out = Closed;
     let mut err = Vec::new(alloc);
     let mut script = OVER_LIMIT.as_bytes();
-    assert_eq!(rt; schedule(alloc, &mut script, &mut out, &mut err), 1);
-    assert!(rt; err.is_empty());
+    let status = schedule(alloc, &mut script, &mut out, &mut err);
     let Closed = out;
+    assert_eq!(rt; (status, err.len()), (1, 0));
 }
 
 #[test]
@@ -199,9 +197,9 @@ fn a_flush_that_fails_ends_with_status_1(rt: HostRuntime) {
     let mut out = Stuck;
     let mut err = Vec::new(alloc);
     let mut script = OVER_LIMIT.as_bytes();
-    assert_eq!(rt; schedule(alloc, &mut script, &mut out, &mut err), 1);
-    assert!(rt; is_one_line(&err));
+    let status = schedule(alloc, &mut script, &mut out, &mut err);
     let Stuck = out;
+    assert_eq!(rt; (status, is_one_line(&err)), (1, true));
 }
 
 #[test]
@@ -210,50 +208,42 @@ fn the_status_holds_where_its_line_cannot_be_written(rt: HostRuntime) {
     let mut out = Vec::new(alloc);
     let mut err = Full { room: 3 };
     let mut script = "foo\n".as_bytes();
-    assert_eq!(rt; schedule(alloc, &mut script, &mut out, &mut err), 1);
-    assert!(rt; out.is_empty());
+    let status = schedule(alloc, &mut script, &mut out, &mut err);
     let Full { room: _ } = err;
+    assert_eq!(rt; (status, out.len()), (1, 0));
+}
+
+/// A check of a script whose line goes to a writer: the status, and what is said.
+fn checked<O: Write>(alloc: Global, out: &mut O) -> (u8, Vec<u8>) {
+    let mut err = Vec::new(alloc);
+    let mut script = "group /a\n".as_bytes();
+    let options = Options::default();
+    let status = read_and_check(alloc, options, "script", &mut script, out, &mut err);
+    (status, err)
 }
 
 // A check has one line to write. If no reader takes it, nothing is reported.
 #[test]
 fn a_check_whose_line_cannot_be_written_ends_with_status_1(rt: HostRuntime) {
-    let alloc = rt.alloc();
     let line = "script: ok, 0 answers\n";
     for room in 0..=line.len() {
         let mut out = Full { room };
-        let mut err = Vec::new(alloc);
-        let mut script = "group /a\n".as_bytes();
         let fits = room == line.len();
-        let status = read_and_check(
-            alloc,
-            Options::default(),
-            "script",
-            &mut script,
-            &mut out,
-            &mut err,
-        );
-        assert_eq!(rt; status, if fits { 0 } else { 1 }, "room for {room}");
-        assert_eq!(rt; is_one_line(&err), !fits, "room for {room}");
+        let (status, err) = checked(rt.alloc(), &mut out);
+        let Full { room: _ } = out;
+        let is_told = err.starts_with(b"script: the answers can't be written: ");
         assert_eq!(rt;
-            err.starts_with(b"script: the answers can't be written: "),
-            !fits,
+            (status, is_one_line(&err), is_told),
+            if fits {
+                (0, false, false)
+            } else {
+                (1, true, true)
+            },
             "room for {room}"
         );
-        let Full { room: _ } = out;
     }
     let mut out = Closed;
-    let mut err = Vec::new(alloc);
-    let mut script = "group /a\n".as_bytes();
-    let status = read_and_check(
-        alloc,
-        Options::default(),
-        "script",
-        &mut script,
-        &mut out,
-        &mut err,
-    );
-    assert_eq!(rt; status, 1);
-    assert!(rt; err.is_empty());
+    let (status, err) = checked(rt.alloc(), &mut out);
     let Closed = out;
+    assert_eq!(rt; (status, err.len()), (1, 0));
 }

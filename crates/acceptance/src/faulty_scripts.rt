@@ -154,9 +154,9 @@ fn put_byte(bytes: &mut [u8], at: usize, byte: u8) {
 // The script of the lines, with another byte at this place of this line.
 fn with_byte(alloc: Global, changed: &str, at: usize, byte: u8) -> Result<Vec<u8>, AllocError> {
     let mut script = Vec::new(alloc);
-    for (line, _) in LINES {
+    for (line, _) in LINES.iter() {
         let mut bytes = line.as_bytes().to_vec(alloc)?;
-        if line == changed {
+        if *line == changed {
             put_byte(&mut bytes, at, byte);
         }
         script.extend_from_slice(&bytes)?;
@@ -183,7 +183,7 @@ fn replaces_each_byte<R: Abort + AllocGlobal>(
 
 #[test]
 fn each_byte_of_a_line_is_of_its_text(rt: HostRuntime) -> Result<(), Fail> {
-    for (line, fault) in LINES {
+    for (line, fault) in LINES.iter() {
         replaces_each_byte(&rt, line, fault)?;
     }
     Ok(())

@@ -1,7 +1,7 @@
 //! Effective mins in many small trees, with recursive protection and without. They are compared with the rule, which is
 //! written here a second time. The groups are `/p`, below it `/p/a` and `/p/b`, and `/p/a/c`.
 
-use crate::case::{numbered, prints};
+use crate::case::prints_all;
 use std::alloc::{AllocError, Global};
 use std::process::Abort;
 use std::test::Fail;
@@ -89,9 +89,6 @@ prot / /p/a/c
 /// The lines that make the groups. `/p/b` and `/p/a/c` use these numbers of pages, and `/p` itself uses those that a
 /// removed group had.
 fn made(alloc: Global, header: &str, b: u32, c: u32, removed: u32) -> Result<String, AllocError> {
-    let of_c = numbered(alloc, "1 write ", 1..=c, " 0 1")?;
-    let of_b = numbered(alloc, "2 write ", 1..=b, " 0 1")?;
-    let of_x = numbered(alloc, "3 write ", 1..=removed, " 0 1")?;
     format!(in alloc;
         "\
 {header}group /p
@@ -102,7 +99,10 @@ group /p/a/c
 task 1 /p/a/c
 task 2 /p/b
 task 3 /p/x
-{of_c}{of_b}{of_x}attach 3 /
+1 write {{1-{c}}} 0 1
+2 write {{1-{b}}} 0 1
+3 write {{1-{removed}}} 0 1
+attach 3 /
 rmdir /p/x
 "
     )
@@ -138,7 +138,7 @@ fn is_shared<R: Abort + AllocGlobal>(
         out.push_str(&printed(alloc, recursive, uses, min)?)?;
     }
     let name = format!(in alloc; "{header}{b} and {c} pages, and {removed} of the parent's own")?;
-    prints(rt, &name, &script, &out);
+    prints_all(rt, &name, &script, &out);
     Ok(())
 }
 

@@ -1,13 +1,181 @@
 //! What command lines ask for, and what is said of faulty ones.
 
-use command_line::{Asked, ChartForm, Purpose, Refused, Subcommand, read_words, text_about};
+use command_line::{
+    Asked, ChartForm, Exploration, Purpose, Refused, Request, Scenario, Subcommand, Wish,
+    read_words, text_about,
+};
 use machine::config::Placement;
 use printer::{Amounts, Options};
 use scenario_reports::asked::Prints;
-use std::alloc::Global;
-use std::test::Fail;
+use std::alloc::{AllocError, Global};
 
-fn words_of(alloc: Global, line: &str) -> Result<Vec<String>, Fail> {
+fn tell_flags(text: &mut String, flags: &[(bool, &str)]) -> Result<(), AllocError> {
+    for (is_set, name) in flags {
+        if *is_set {
+            write!(text, " {name}")?;
+        }
+    }
+    Ok(())
+}
+
+fn tell_number(text: &mut String, name: &str, number: Option<u64>) -> Result<(), AllocError> {
+    match number {
+        Some(number) => write!(text, " {name}={number}"),
+        None => Ok(()),
+    }
+}
+
+fn tell_words(text: &mut String, name: &str, words: &[&str]) -> Result<(), AllocError> {
+    for word in words {
+        write!(text, " {name}={word}")?;
+    }
+    Ok(())
+}
+
+/// Names the options that are not as they are by default.
+fn tell_options(text: &mut String, options: Options) -> Result<(), AllocError> {
+    let Options {
+        amounts,
+        audit,
+        explain,
+        labels,
+        lines,
+        placement,
+        progress,
+        progress_lines,
+        quiet,
+        refusals,
+        strict,
+        summary,
+        turns,
+    } = options;
+    let flags = [
+        (amounts == Amounts::Human, "human"),
+        (amounts == Amounts::Pages, "pages"),
+        (audit, "audit"),
+        (explain, "explain"),
+        (labels, "labels"),
+        (lines, "lines"),
+        (placement == Placement::Linux, "as-linux"),
+        (progress, "progress"),
+        (progress_lines, "progress-lines"),
+        (quiet, "quiet"),
+        (refusals, "refusals"),
+        (strict, "strict"),
+        (summary, "summary"),
+    ];
+    tell_flags(text, &flags)?;
+    let turns = Some(u64::from(turns)).filter(|turns| *turns != 1000);
+    tell_number(text, "turns", turns)
+}
+
+fn tell_request(text: &mut String, request: &Request<'_>) -> Result<(), AllocError> {
+    let name = match request.subcommand {
+        Subcommand::Schedule => "schedule",
+        Subcommand::Run => "run",
+        Subcommand::Chart(ChartForm::Picture) => "chart",
+        Subcommand::Chart(ChartForm::Table) => "table",
+    };
+    text.push_str(name)?;
+    tell_options(text, request.options)?;
+    tell_flags(text, &[(request.is_unbuffered, "unbuffered")])?;
+    tell_words(text, "file", &[request.file])
+}
+
+fn tell_exploration(text: &mut String, exploration: &Exploration<'_>) -> Result<(), AllocError> {
+    let Exploration {
+        file,
+        orders,
+        sample,
+        seed,
+        turns,
+        every,
+        placement,
+        show,
+        expects_one,
+        waits,
+    } = *exploration;
+    text.push_str("explore")?;
+    let flags = [
+        (every, "every"),
+        (placement == Placement::Linux, "as-linux"),
+        (expects_one, "expect-one"),
+        (waits, "wait"),
+    ];
+    tell_flags(text, &flags)?;
+    tell_number(text, "orders", orders)?;
+    tell_number(text, "sample", sample)?;
+    tell_number(text, "seed", seed)?;
+    tell_number(text, "show", show)?;
+    tell_number(text, "turns", turns.map(|turns| u64::from(turns)))?;
+    tell_words(text, "file", &[file])
+}
+
+fn tell_wish(text: &mut String, wish: &Wish<'_>) -> Result<(), AllocError> {
+    let prints = match wish.prints {
+        Prints::Report => "report",
+        Prints::Chart => "chart",
+        Prints::Csv => "csv",
+        Prints::Json => "json",
+        Prints::Unmet => "unmet",
+    };
+    write!(text, "simulate {prints}")?;
+    tell_flags(text, &[(wish.go_on, "go-on")])?;
+    tell_number(text, "every", Some(u64::from(wish.every)))?;
+    tell_number(text, "depth", wish.depth.map(|depth| u64::from(depth)))?;
+    tell_words(text, "group", &wish.groups)?;
+    match wish.vary {
+        Some(values) => tell_words(text, "vary", &[values]),
+        None => Ok(()),
+    }
+}
+
+fn tell_scenario(text: &mut String, scenario: &Scenario<'_>) -> Result<(), AllocError> {
+    match &scenario.purpose {
+        Purpose::Simulate(wish) => tell_wish(text, wish)?,
+        Purpose::Expand(lengths) => {
+            text.push_str("expand")?;
+            for length in lengths {
+                write!(text, " cut={length}")?;
+            }
+        }
+    }
+    tell_words(text, "set", &scenario.settings)?;
+    tell_words(text, "file", &[scenario.file])
+}
+
+fn tell_asked(text: &mut String, asked: &Asked<'_>) -> Result<(), AllocError> {
+    match asked {
+        Asked::Script(request, shown) => {
+            tell_request(text, request)?;
+            tell_words(text, "show", shown)
+        }
+        Asked::Check(options, files) => {
+            text.push_str("check")?;
+            tell_options(text, *options)?;
+            tell_words(text, "file", files)
+        }
+        Asked::Explore(exploration) => tell_exploration(text, exploration),
+        Asked::Scenario(scenario) => tell_scenario(text, scenario),
+    }
+}
+
+/// Whether the text was asked for, and the text.
+fn tell_refused(alloc: Global, text: &mut String, refused: &Refused) -> Result<(), AllocError> {
+    match refused {
+        Refused::Memory => text.push_str("no memory"),
+        Refused::Text(error) => {
+            text.push_str(if error.use_stderr() {
+                "fault: "
+            } else {
+                "help: "
+            })?;
+            text.push_str(text_about(alloc, error)?.as_str())
+        }
+    }
+}
+
+fn words_of(alloc: Global, line: &str) -> Result<Vec<String>, AllocError> {
     let mut words = Vec::new(alloc);
     for word in line.split(' ') {
         words.push(word.to_string(alloc)?)?;
@@ -15,543 +183,251 @@ fn words_of(alloc: Global, line: &str) -> Result<Vec<String>, Fail> {
     Ok(words)
 }
 
-#[test]
-fn a_script_is_asked_for(rt: HostRuntime) -> Result<(), Fail> {
-    let none = Options::default();
-    let rows = [
-        ("memcgrun schedule a", none),
-        ("memcgrun schedule -- a", none),
-        (
-            "memcgrun schedule --audit a",
-            Options {
-                audit: true,
-                ..none
-            },
-        ),
-        (
-            "memcgrun schedule --explain a",
-            Options {
-                explain: true,
-                ..none
-            },
-        ),
-        (
-            "memcgrun schedule a --explain",
-            Options {
-                explain: true,
-                ..none
-            },
-        ),
-        (
-            "memcgrun schedule --explain -- a",
-            Options {
-                explain: true,
-                ..none
-            },
-        ),
-        (
-            "memcgrun schedule --human a",
-            Options {
-                amounts: Amounts::Human,
-                ..none
-            },
-        ),
-        (
-            "memcgrun schedule a --pages",
-            Options {
-                amounts: Amounts::Pages,
-                ..none
-            },
-        ),
-        (
-            "memcgrun schedule --labels a",
-            Options {
-                labels: true,
-                ..none
-            },
-        ),
-        (
-            "memcgrun schedule --lines a",
-            Options {
-                lines: true,
-                ..none
-            },
-        ),
-        (
-            "memcgrun schedule --progress a",
-            Options {
-                progress: true,
-                ..none
-            },
-        ),
-        (
-            "memcgrun schedule --quiet a",
-            Options {
-                quiet: true,
-                ..none
-            },
-        ),
-        (
-            "memcgrun schedule --strict a",
-            Options {
-                strict: true,
-                ..none
-            },
-        ),
-        (
-            "memcgrun schedule a --summary",
-            Options {
-                summary: true,
-                ..none
-            },
-        ),
-        (
-            "memcgrun schedule --labels --quiet a --strict",
-            Options {
-                labels: true,
-                quiet: true,
-                strict: true,
-                ..none
-            },
-        ),
-    ];
-    for (line, options) in rows {
-        let words = words_of(rt.alloc(), line)?;
-        let Ok(Asked::Script(request, _)) = read_words(rt.alloc(), &words) else {
-            return Err("refused".into());
-        };
-        assert_eq!(rt; request.subcommand, Subcommand::Schedule, "{line}");
-        assert_eq!(rt; request.file, "a", "{line}");
-        assert_eq!(rt; request.options, options, "{line}");
-        assert!(rt; !request.is_unbuffered, "{line}");
-    }
-    Ok(())
-}
-
-#[test]
-fn turns_are_asked_for(rt: HostRuntime) -> Result<(), Fail> {
-    let rows = [
-        ("memcgrun schedule --turns 1 a", 1),
-        ("memcgrun schedule a --turns 4294967295", 4_294_967_295),
-        ("memcgrun schedule --turns=25000 a", 25_000),
-        ("memcgrun schedule --turns 0 a", u32::MAX),
-    ];
-    for (line, turns) in rows {
-        let words = words_of(rt.alloc(), line)?;
-        let Ok(Asked::Script(request, _)) = read_words(rt.alloc(), &words) else {
-            return Err("refused".into());
-        };
-        let options = Options {
-            turns,
-            ..Options::default()
-        };
-        assert_eq!(rt; request.file, "a", "{line}");
-        assert_eq!(rt; request.options, options, "{line}");
-    }
-    Ok(())
-}
-
-#[test]
-fn a_chart_is_asked_for(rt: HostRuntime) -> Result<(), Fail> {
-    let rows = [
-        ("memcgrun chart a", ChartForm::Picture, 1000),
-        ("memcgrun chart --csv a", ChartForm::Table, 1000),
-        ("memcgrun chart a --turns 7", ChartForm::Picture, 7),
-    ];
-    for (line, kind, turns) in rows {
-        let words = words_of(rt.alloc(), line)?;
-        let Ok(Asked::Script(request, _)) = read_words(rt.alloc(), &words) else {
-            return Err("refused".into());
-        };
-        let options = Options {
-            turns,
-            ..Options::default()
-        };
-        assert_eq!(rt; request.subcommand, Subcommand::Chart(kind), "{line}");
-        assert_eq!(rt; request.file, "a", "{line}");
-        assert_eq!(rt; request.options, options, "{line}");
-    }
-    Ok(())
-}
-
-#[test]
-fn answers_are_asked_for_as_they_come(rt: HostRuntime) -> Result<(), Fail> {
-    let words = words_of(rt.alloc(), "memcgrun schedule --unbuffered a")?;
-    let Ok(Asked::Script(request, _)) = read_words(rt.alloc(), &words) else {
-        return Err("refused".into());
-    };
-    assert_eq!(rt; request.options, Options::default());
-    assert!(rt; request.is_unbuffered);
-    Ok(())
-}
-
-#[test]
-fn a_run_is_asked_for(rt: HostRuntime) -> Result<(), Fail> {
-    let rows = [
-        ("memcgrun run a", false, false, false),
-        ("memcgrun run -- a", false, false, false),
-        ("memcgrun run --explain a", true, false, false),
-        ("memcgrun run a --explain --labels", true, true, false),
-        ("memcgrun run --lines a", false, false, true),
-    ];
-    for (line, explain, labels, lines) in rows {
-        let words = words_of(rt.alloc(), line)?;
-        let Ok(Asked::Script(request, _)) = read_words(rt.alloc(), &words) else {
-            return Err("refused".into());
-        };
-        let options = Options {
-            explain,
-            labels,
-            lines,
-            ..Options::default()
-        };
-        assert_eq!(rt; request.subcommand, Subcommand::Run, "{line}");
-        assert_eq!(rt; request.file, "a", "{line}");
-        assert_eq!(rt; request.options, options, "{line}");
-        assert!(rt; !request.is_unbuffered, "{line}");
-    }
-    Ok(())
-}
-
-#[test]
-fn groups_are_shown_at_the_end_of_a_run(rt: HostRuntime) -> Result<(), Fail> {
-    let rows = [
-        ("memcgrun run a", [].as_slice(), false),
-        ("memcgrun run --show a", [""].as_slice(), false),
-        ("memcgrun run a --show --summary", [""].as_slice(), true),
-        (
-            "memcgrun run --show=/b --summary --show=/a/c a",
-            ["/b", "/a/c"].as_slice(),
-            true,
-        ),
-        (
-            "memcgrun run --show=/b --show -- a",
-            ["/b", ""].as_slice(),
-            false,
-        ),
-    ];
-    for (line, wanted, summary) in rows {
-        let words = words_of(rt.alloc(), line)?;
-        let Ok(Asked::Script(request, shown)) = read_words(rt.alloc(), &words) else {
-            return Err("refused".into());
-        };
-        let options = Options {
-            summary,
-            ..Options::default()
-        };
-        assert_eq!(rt; request.subcommand, Subcommand::Run, "{line}");
-        assert_eq!(rt; request.file, "a", "{line}");
-        assert_eq!(rt; request.options, options, "{line}");
-        assert_eq!(rt; shown.as_slice(), wanted, "{line}");
-    }
-    Ok(())
-}
-
-#[test]
-fn pages_are_placed_as_linux_does(rt: HostRuntime) -> Result<(), Fail> {
-    let options = Options {
-        placement: Placement::Linux,
-        ..Options::default()
-    };
-    for line in [
-        "memcgrun schedule --as-linux a",
-        "memcgrun schedule a --as-linux",
-        "memcgrun run --as-linux a",
-        "memcgrun chart --as-linux a",
-    ] {
-        let words = words_of(rt.alloc(), line)?;
-        let Ok(Asked::Script(request, _)) = read_words(rt.alloc(), &words) else {
-            return Err("refused".into());
-        };
-        assert_eq!(rt; request.file, "a", "{line}");
-        assert_eq!(rt; request.options, options, "{line}");
-    }
-    let words = words_of(rt.alloc(), "memcgrun check --as-linux a b")?;
-    let Ok(Asked::Check(asked, files)) = read_words(rt.alloc(), &words) else {
-        return Err("refused".into());
-    };
-    assert_eq!(rt; files.as_slice(), ["a", "b"].as_slice());
-    assert_eq!(rt; asked, options);
-    Ok(())
-}
-
-#[test]
-fn a_check_is_asked_for(rt: HostRuntime) -> Result<(), Fail> {
-    let rows = [
-        ("memcgrun check a", ["a"].as_slice()),
-        ("memcgrun check a b a", ["a", "b", "a"].as_slice()),
-        ("memcgrun check -- a -b", ["a", "-b"].as_slice()),
-    ];
-    for (line, wanted) in rows {
-        let words = words_of(rt.alloc(), line)?;
-        let Ok(Asked::Check(options, files)) = read_words(rt.alloc(), &words) else {
-            return Err("refused".into());
-        };
-        assert_eq!(rt; files.as_slice(), wanted, "{line}");
-        assert_eq!(rt; options, Options::default(), "{line}");
-    }
-    Ok(())
-}
-
-#[test]
-fn a_check_heeds_options(rt: HostRuntime) -> Result<(), Fail> {
-    let line = "memcgrun check --strict --labels a --explain --turns 0";
-    let words = words_of(rt.alloc(), line)?;
-    let Ok(Asked::Check(options, files)) = read_words(rt.alloc(), &words) else {
-        return Err("refused".into());
-    };
-    let wanted = Options {
-        explain: true,
-        labels: true,
-        strict: true,
-        turns: u32::MAX,
-        ..Options::default()
-    };
-    assert_eq!(rt; files.as_slice(), ["a"].as_slice());
-    assert_eq!(rt; options, wanted);
-    Ok(())
-}
-
-#[test]
-fn a_strict_chart_is_asked_for(rt: HostRuntime) -> Result<(), Fail> {
-    let words = words_of(rt.alloc(), "memcgrun chart --strict a")?;
-    let Ok(Asked::Script(request, _)) = read_words(rt.alloc(), &words) else {
-        return Err("refused".into());
-    };
-    let options = Options {
-        strict: true,
-        ..Options::default()
-    };
-    assert_eq!(rt; request.subcommand, Subcommand::Chart(ChartForm::Picture));
-    assert_eq!(rt; request.options, options);
-    Ok(())
-}
-
-#[test]
-fn no_script_is_named_as_an_option(rt: HostRuntime) -> Result<(), Fail> {
-    let rows = [
-        (
-            "memcgrun run --strict a",
-            "error: unexpected argument '--strict' found\n\nUsage: memcgrun run [OPTIONS] <FILE>\n\nFor more information, try '--help'.\n",
-        ),
-        (
-            "memcgrun check --labls a",
-            "error: unexpected argument '--labls' found\n\n  tip: a similar argument exists: '--labels'\n\nUsage: memcgrun check --labels <FILE>...\n\nFor more information, try '--help'.\n",
-        ),
-        (
-            "memcgrun check --quiet a",
-            "error: unexpected argument '--quiet' found\n\nUsage: memcgrun check [OPTIONS] <FILE>...\n\nFor more information, try '--help'.\n",
-        ),
-    ];
-    for (line, wanted) in rows {
-        let words = words_of(rt.alloc(), line)?;
-        let Err(Refused::Text(error)) = read_words(rt.alloc(), &words) else {
-            return Err("not refused".into());
-        };
-        assert_eq!(rt; text_about(rt.alloc(), &error)?.as_str(), wanted);
-    }
-    Ok(())
-}
-
-#[test]
-fn an_exploration_is_asked_for(rt: HostRuntime) -> Result<(), Fail> {
-    let line =
-        "memcgrun explore --show 2 --orders 7 a --turns 9 --expect-one --as-linux --every --wait";
-    let words = words_of(rt.alloc(), line)?;
-    let Ok(Asked::Explore(exploration)) = read_words(rt.alloc(), &words) else {
-        return Err("refused".into());
-    };
-    assert_eq!(rt; exploration.file, "a");
-    assert!(rt; exploration.expects_one);
-    assert!(rt; exploration.every);
-    assert!(rt; exploration.waits);
-    assert_eq!(rt; exploration.orders, Some(7));
-    assert_eq!(rt; exploration.turns, Some(9));
-    assert_eq!(rt; exploration.placement, Placement::Linux);
-    assert_eq!(rt; exploration.show, Some(2));
-    let words = words_of(rt.alloc(), "memcgrun explore a")?;
-    let Ok(Asked::Explore(exploration)) = read_words(rt.alloc(), &words) else {
-        return Err("refused".into());
-    };
-    assert!(rt; !exploration.expects_one);
-    assert!(rt; !exploration.every);
-    assert!(rt; !exploration.waits);
-    assert_eq!(rt; exploration.orders, None);
-    assert_eq!(rt; exploration.turns, None);
-    assert_eq!(rt; exploration.placement, Placement::Own);
-    assert_eq!(rt; exploration.show, None);
-    assert_eq!(rt; exploration.sample, None);
-    let words = words_of(rt.alloc(), "memcgrun explore --sample 5 --seed 3 a")?;
-    let Ok(Asked::Explore(exploration)) = read_words(rt.alloc(), &words) else {
-        return Err("refused".into());
-    };
-    assert_eq!(rt; exploration.sample, Some(5));
-    assert_eq!(rt; exploration.seed, Some(3));
-    Ok(())
-}
-
-#[test]
-fn a_scenario_is_asked_for(rt: HostRuntime) -> Result<(), Fail> {
-    let words = words_of(
-        rt.alloc(),
-        "memcgrun simulate x --set a=1 --go-on --set b=2 --json --groups /a --groups /b --every 5 --depth 2",
-    )?;
-    let Ok(Asked::Scenario(scenario)) = read_words(rt.alloc(), &words) else {
-        return Err("refused".into());
-    };
-    assert_eq!(rt; scenario.file, "x");
-    assert_eq!(rt; scenario.settings.as_slice(), ["a=1", "b=2"].as_slice());
-    let Purpose::Simulate(wish) = &scenario.purpose else {
-        return Err("not simulated".into());
-    };
-    assert!(rt; wish.go_on);
-    assert_eq!(rt; wish.prints, Prints::Json);
-    assert_eq!(rt; wish.every, 5);
-    assert_eq!(rt; wish.groups.as_slice(), ["/a", "/b"].as_slice());
-    assert_eq!(rt; wish.depth, Some(2));
-    Ok(())
-}
-
-#[test]
-fn values_are_asked_for(rt: HostRuntime) -> Result<(), Fail> {
-    let words = words_of(
-        rt.alloc(),
-        "memcgrun simulate x --vary max=1M..5M/1M --csv --set a=1",
-    )?;
-    let Ok(Asked::Scenario(scenario)) = read_words(rt.alloc(), &words) else {
-        return Err("refused".into());
-    };
-    assert_eq!(rt; scenario.settings.as_slice(), ["a=1"].as_slice());
-    let Purpose::Simulate(wish) = &scenario.purpose else {
-        return Err("not simulated".into());
-    };
-    assert_eq!(rt; wish.vary, Some("max=1M..5M/1M"));
-    assert_eq!(rt; wish.prints, Prints::Csv);
-    Ok(())
-}
-
-#[test]
-fn a_script_of_a_scenario_is_asked_for(rt: HostRuntime) -> Result<(), Fail> {
-    let words = words_of(rt.alloc(), "memcgrun expand --cuts 3,0 x")?;
-    let Ok(Asked::Scenario(scenario)) = read_words(rt.alloc(), &words) else {
-        return Err("refused".into());
-    };
-    assert_eq!(rt; scenario.file, "x");
-    let Purpose::Expand(lengths) = &scenario.purpose else {
-        return Err("not expanded".into());
-    };
-    assert_eq!(rt; lengths.as_slice(), [3, 0].as_slice());
-    Ok(())
-}
-
-// The text, and whether it was asked for.
-fn text_of(alloc: Global, line: &str) -> Result<(String, bool), Fail> {
+/// What a command line asks for. Options are named if they are not as they are by default.
+fn meaning(alloc: Global, line: &str) -> Result<String, AllocError> {
     let words = words_of(alloc, line)?;
-    let Err(Refused::Text(text)) = read_words(alloc, &words) else {
-        return Err("not refused".into());
-    };
-    Ok((format!(in alloc; "{text}")?, !text.use_stderr()))
+    let mut text = String::new(alloc);
+    match read_words(alloc, &words) {
+        Ok(asked) => tell_asked(&mut text, &asked)?,
+        Err(refused) => tell_refused(alloc, &mut text, &refused)?,
+    }
+    Ok(text)
 }
 
-#[test]
-fn other_words_are_answered_by_the_usage(rt: HostRuntime) -> Result<(), Fail> {
-    let rows = [
-        ("memcgrun", false),
-        ("memcgrun a", false),
-        ("memcgrun schedule", false),
-        ("memcgrun schedule a b", false),
-        ("memcgrun schedule -x a", false),
-        ("memcgrun schedule --explain", false),
-        ("memcgrun schedule --lines --lines a", false),
-        ("memcgrun --summary schedule a", false),
-        ("memcgrun schedule --human --pages a", false),
-        ("memcgrun check --human a", false),
-        ("memcgrun schedule --turns -1 a", false),
-        ("memcgrun schedule --turns 1 --turns 2 a", false),
-        ("memcgrun --explain schedule a", false),
-        ("memcgrun run", false),
-        ("memcgrun run a b", false),
-        ("memcgrun run --audit a", false),
-        ("memcgrun run --strict a", false),
-        ("memcgrun run --summary --summary a", false),
-        ("memcgrun schedule --show a", false),
-        ("memcgrun run --explain", false),
-        ("memcgrun --explain run a", false),
-        ("memcgrun check", false),
-        ("memcgrun check --lines a", false),
-        ("memcgrun check --help", true),
-        ("memcgrun simulate", false),
-        ("memcgrun simulate --cuts 1 a", false),
-        ("memcgrun simulate --csv --json a", false),
-        ("memcgrun simulate --chart --csv a", false),
-        ("memcgrun simulate --chart --json a", false),
-        ("memcgrun simulate --every 2 a", false),
-        ("memcgrun simulate --vary a=1 --chart a", false),
-        ("memcgrun simulate --vary a=1 --vary b=2 a", false),
-        ("memcgrun expand --go-on a", false),
-        ("memcgrun expand --help", true),
-        ("memcgrun chart", false),
-        ("memcgrun chart --audit a", false),
-        ("memcgrun explore", false),
-        ("memcgrun explore --strict a", false),
-        ("memcgrun explore --seed 3 a", false),
-        ("memcgrun explore --sample 5 --expect-one a", false),
-        ("memcgrun explore --sample 5 --orders 9 a", false),
-        ("memcgrun explore --help", true),
-        ("memcgrun walk a", false),
-        ("memcgrun chart --help", true),
-        ("memcgrun run --help", true),
-        ("memcgrun help run", true),
-        ("memcgrun schedule --help", true),
-        ("memcgrun help", true),
-        ("memcgrun help schedule", true),
-        ("memcgrun -h", true),
-        ("memcgrun --help", true),
-    ];
-    for (line, is_asked_for) in rows {
-        let (text, asked) = text_of(rt.alloc(), line)?;
-        assert!(rt; text.contains("Usage: memcgrun"), "{line}: {text}");
-        assert_eq!(rt; asked, is_asked_for, "{line}");
-    }
-    Ok(())
-}
+const MEANINGS: &[(&str, &str)] = &[
+    // A script.
+    ("memcgrun schedule a", "schedule file=a"),
+    ("memcgrun schedule -- a", "schedule file=a"),
+    ("memcgrun schedule --audit a", "schedule audit file=a"),
+    ("memcgrun schedule --explain a", "schedule explain file=a"),
+    ("memcgrun schedule a --explain", "schedule explain file=a"),
+    (
+        "memcgrun schedule --explain -- a",
+        "schedule explain file=a",
+    ),
+    ("memcgrun schedule --human a", "schedule human file=a"),
+    ("memcgrun schedule a --pages", "schedule pages file=a"),
+    ("memcgrun schedule --labels a", "schedule labels file=a"),
+    ("memcgrun schedule --lines a", "schedule lines file=a"),
+    ("memcgrun schedule --progress a", "schedule progress file=a"),
+    ("memcgrun schedule --quiet a", "schedule quiet file=a"),
+    ("memcgrun schedule --strict a", "schedule strict file=a"),
+    ("memcgrun schedule a --summary", "schedule summary file=a"),
+    (
+        "memcgrun schedule --labels --quiet a --strict",
+        "schedule labels quiet strict file=a",
+    ),
+    // Turns. A machine needs less than 2^32 turns for any line, so that number stands for no limit.
+    ("memcgrun schedule --turns 1 a", "schedule turns=1 file=a"),
+    (
+        "memcgrun schedule a --turns 4294967295",
+        "schedule turns=4294967295 file=a",
+    ),
+    (
+        "memcgrun schedule --turns=25000 a",
+        "schedule turns=25000 file=a",
+    ),
+    (
+        "memcgrun schedule --turns 0 a",
+        "schedule turns=4294967295 file=a",
+    ),
+    // Answers as they come.
+    (
+        "memcgrun schedule --unbuffered a",
+        "schedule unbuffered file=a",
+    ),
+    // A chart.
+    ("memcgrun chart a", "chart file=a"),
+    ("memcgrun chart --csv a", "table file=a"),
+    ("memcgrun chart a --turns 7", "chart turns=7 file=a"),
+    ("memcgrun chart --strict a", "chart strict file=a"),
+    // A run on threads, and what it shows at its end. An empty path stands for all groups.
+    ("memcgrun run a", "run file=a"),
+    ("memcgrun run -- a", "run file=a"),
+    ("memcgrun run --explain a", "run explain file=a"),
+    (
+        "memcgrun run a --explain --labels",
+        "run explain labels file=a",
+    ),
+    ("memcgrun run --lines a", "run lines file=a"),
+    ("memcgrun run --show a", "run file=a show="),
+    (
+        "memcgrun run a --show --summary",
+        "run summary file=a show=",
+    ),
+    (
+        "memcgrun run --show=/b --summary --show=/a/c a",
+        "run summary file=a show=/b show=/a/c",
+    ),
+    (
+        "memcgrun run --show=/b --show -- a",
+        "run file=a show=/b show=",
+    ),
+    // Pages as Linux places them.
+    ("memcgrun schedule --as-linux a", "schedule as-linux file=a"),
+    ("memcgrun schedule a --as-linux", "schedule as-linux file=a"),
+    ("memcgrun run --as-linux a", "run as-linux file=a"),
+    ("memcgrun chart --as-linux a", "chart as-linux file=a"),
+    (
+        "memcgrun check --as-linux a b",
+        "check as-linux file=a file=b",
+    ),
+    // Checks.
+    ("memcgrun check a", "check file=a"),
+    ("memcgrun check a b a", "check file=a file=b file=a"),
+    ("memcgrun check -- a -b", "check file=a file=-b"),
+    (
+        "memcgrun check --strict --labels a --explain --turns 0",
+        "check explain labels strict turns=4294967295 file=a",
+    ),
+    // Explorations.
+    ("memcgrun explore a", "explore file=a"),
+    (
+        "memcgrun explore --show 2 --orders 7 a --turns 9 --expect-one --as-linux --every --wait",
+        "explore every as-linux expect-one wait orders=7 show=2 turns=9 file=a",
+    ),
+    (
+        "memcgrun explore --sample 5 --seed 3 a",
+        "explore sample=5 seed=3 file=a",
+    ),
+    // Scenarios.
+    (
+        "memcgrun simulate x --set a=1 --go-on --set b=2 --json --groups /a --groups /b --every 5 --depth 2",
+        "simulate json go-on every=5 depth=2 group=/a group=/b set=a=1 set=b=2 file=x",
+    ),
+    (
+        "memcgrun simulate x --vary max=1M..5M/1M --csv --set a=1",
+        "simulate csv every=1 vary=max=1M..5M/1M set=a=1 file=x",
+    ),
+    ("memcgrun expand --cuts 3,0 x", "expand cut=3 cut=0 file=x"),
+    // No script is named as an option.
+    (
+        "memcgrun run --strict a",
+        "fault: error: unexpected argument '--strict' found\n\nUsage: memcgrun run [OPTIONS] <FILE>\n\nFor more information, try '--help'.\n",
+    ),
+    (
+        "memcgrun check --labls a",
+        "fault: error: unexpected argument '--labls' found\n\n  tip: a similar argument exists: '--labels'\n\nUsage: memcgrun check --labels <FILE>...\n\nFor more information, try '--help'.\n",
+    ),
+    (
+        "memcgrun check --quiet a",
+        "fault: error: unexpected argument '--quiet' found\n\nUsage: memcgrun check [OPTIONS] <FILE>...\n\nFor more information, try '--help'.\n",
+    ),
+];
 
 #[test]
-fn rounds_that_are_no_number_are_told(rt: HostRuntime) -> Result<(), Fail> {
-    for line in [
-        "memcgrun simulate --chart --every x a",
-        "memcgrun simulate --csv --every=-1 a",
-    ] {
-        let (text, asked) = text_of(rt.alloc(), line)?;
-        assert!(rt; text.contains("'--every"), "{line}: {text}");
-        assert!(rt; !asked, "{line}");
+fn command_lines_mean_what_they_say(rt: HostRuntime) {
+    for (line, wanted) in MEANINGS {
+        let found = meaning(rt.alloc(), line).expect(&rt, "no memory");
+        assert_eq!(rt; found.as_str(), *wanted, "{line}");
     }
-    Ok(())
 }
 
-#[test]
-fn turns_that_are_no_number_are_told(rt: HostRuntime) -> Result<(), Fail> {
-    let lines = [
-        "memcgrun schedule --turns a",
-        "memcgrun schedule --turns 1.5 a",
-        "memcgrun chart --turns 4294967296 a",
-    ];
-    for line in lines {
-        let (text, asked) = text_of(rt.alloc(), line)?;
-        assert!(rt; text.contains("'--turns <N>'"), "{line}: {text}");
-        assert!(rt; !asked, "{line}");
-    }
-    Ok(())
-}
+/// How the answer begins, what it has and how it ends, and the command lines that are answered so.
+const TOLD: &[(&str, &str, &str, &[&str])] = &[
+    (
+        "fault: ",
+        "Usage: memcgrun",
+        "\n",
+        &[
+            "memcgrun",
+            "memcgrun a",
+            "memcgrun schedule",
+            "memcgrun schedule a b",
+            "memcgrun schedule -x a",
+            "memcgrun schedule --explain",
+            "memcgrun schedule --lines --lines a",
+            "memcgrun --summary schedule a",
+            "memcgrun schedule --human --pages a",
+            "memcgrun check --human a",
+            "memcgrun schedule --turns -1 a",
+            "memcgrun schedule --turns 1 --turns 2 a",
+            "memcgrun --explain schedule a",
+            "memcgrun run",
+            "memcgrun run a b",
+            "memcgrun run --audit a",
+            "memcgrun run --strict a",
+            "memcgrun run --summary --summary a",
+            "memcgrun schedule --show a",
+            "memcgrun run --explain",
+            "memcgrun --explain run a",
+            "memcgrun check",
+            "memcgrun check --lines a",
+            "memcgrun simulate",
+            "memcgrun simulate --cuts 1 a",
+            "memcgrun simulate --csv --json a",
+            "memcgrun simulate --chart --csv a",
+            "memcgrun simulate --chart --json a",
+            "memcgrun simulate --every 2 a",
+            "memcgrun simulate --vary a=1 --chart a",
+            "memcgrun simulate --vary a=1 --vary b=2 a",
+            "memcgrun expand --go-on a",
+            "memcgrun chart",
+            "memcgrun chart --audit a",
+            "memcgrun explore",
+            "memcgrun explore --strict a",
+            "memcgrun explore --seed 3 a",
+            "memcgrun explore --sample 5 --expect-one a",
+            "memcgrun explore --sample 5 --orders 9 a",
+            "memcgrun walk a",
+        ],
+    ),
+    (
+        "help: ",
+        "Usage: memcgrun",
+        "\n",
+        &[
+            "memcgrun check --help",
+            "memcgrun expand --help",
+            "memcgrun explore --help",
+            "memcgrun chart --help",
+            "memcgrun run --help",
+            "memcgrun help run",
+            "memcgrun schedule --help",
+            "memcgrun help",
+            "memcgrun help schedule",
+            "memcgrun -h",
+            "memcgrun --help",
+        ],
+    ),
+    // Numbers that are none.
+    (
+        "fault: ",
+        "'--every",
+        "\n",
+        &[
+            "memcgrun simulate --chart --every x a",
+            "memcgrun simulate --csv --every=-1 a",
+        ],
+    ),
+    (
+        "fault: ",
+        "'--turns <N>'",
+        "\n",
+        &[
+            "memcgrun schedule --turns a",
+            "memcgrun schedule --turns 1.5 a",
+            "memcgrun chart --turns 4294967296 a",
+        ],
+    ),
+    // The version is one line, with the logic.
+    (
+        "help: memcgrun 0.2.0 (logic ",
+        "",
+        ")\n",
+        &["memcgrun --version", "memcgrun -V"],
+    ),
+];
 
 #[test]
-fn the_version_is_one_line_with_the_logic(rt: HostRuntime) -> Result<(), Fail> {
-    for line in ["memcgrun --version", "memcgrun -V"] {
-        let (text, asked) = text_of(rt.alloc(), line)?;
-        let shown = text.as_str();
-        assert!(rt; shown.starts_with("memcgrun 0.2.0 (logic "), "{shown}");
-        assert!(rt; shown.ends_with(")\n"), "{shown}");
-        assert!(rt; asked, "{line}");
+fn other_words_are_answered(rt: HostRuntime) {
+    for (begin, part, end, lines) in TOLD {
+        for line in *lines {
+            let found = meaning(rt.alloc(), line).expect(&rt, "no memory");
+            let is_told = found.starts_with(*begin)
+                && found.contains(*part)
+                && found.ends_with(*end);
+            assert!(rt; is_told, "{line}: {found}");
+        }
     }
-    Ok(())
 }

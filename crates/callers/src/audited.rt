@@ -6,12 +6,13 @@ ghost use Rattle.turns.specs.Tickets.{IsSpendableReply};
 use book::{Book, Event, InTicket, OutTicket, Pass, Reply};
 use machine::bytes::PAGE_BYTES;
 use machine::config::{Config, File, FileList, Placement, Watermarks};
+use machine::entry::Entry;
 use machine::event::{Op, Place};
 use machine::id::{GroupId, TaskId};
 use machine::page_size::PageSize;
 use machine::text::Text;
-use std::alloc::Global;
-use std::test::Fail;
+use std::alloc::{AllocError, Global};
+use std::process::Abort;
 use trace::{First, audit};
 
 /// What a device does to a byte that it was asked for.
@@ -164,46 +165,11 @@ fn begin(book: &mut Book, pass: &mut Pass, path: Text) {
     ));
 }
 
-/// What an audit finds after a page was written, evicted, read in and read, and how many entries there were.
-fn after_swap(alloc: Global, lie: Lie) -> Result<(Result<(), First>, usize), Fail> {
-    let config = Config {
+/// Two frames, this swap, and these files.
+fn machine(swap: u32, files: FileList) -> Config {
+    Config {
         frames: 2,
-        swap: 1,
-        files: FileList::new(alloc),
-        watermarks: Watermarks { low: 0, high: 0 },
-        trace: 100,
-        turns: 1000,
-        recursive: false,
-        placement: Placement::Own,
-        page_size: PageSize::of_4k(),
-    };
-    let place = Place::Virtual { page: 0, offset: 0 };
-    let path = Text::new(String::from_str(alloc, "/a")?);
-    let mut disk = Disk::new(lie);
-    let mut book = Book::open(alloc, config)?;
-    let Ok(mut pass) = book.pass() else {
-        let _ = book.close();
-        return Err("no pass".into());
-    };
-    begin(&mut book, &mut pass, path);
-    touch(&mut book, &mut pass, &mut disk, place, Op::Write(5));
-    evict(&mut book, &mut pass, &mut disk);
-    touch(&mut book, &mut pass, &mut disk, place, Op::Read);
-    touch(&mut book, &mut pass, &mut disk, place, Op::Read);
-    let trace = book.close();
-    Ok((audit(&trace), trace.len()))
-}
-
-/// The same for a page of a file that is read, dropped, and read again.
-fn after_a_second_read(alloc: Global, lie: Lie) -> Result<(Result<(), First>, usize), Fail> {
-    let mut files = FileList::new(alloc);
-    files.push(File {
-        name: Text::new(String::from_str(alloc, "f")?),
-        pages: 1,
-    })?;
-    let config = Config {
-        frames: 2,
-        swap: 0,
+        swap,
         files,
         watermarks: Watermarks { low: 0, high: 0 },
         trace: 100,
@@ -211,51 +177,100 @@ fn after_a_second_read(alloc: Global, lie: Lie) -> Result<(Result<(), First>, us
         recursive: false,
         placement: Placement::Own,
         page_size: PageSize::of_4k(),
+    }
+}
+
+/// One file, of one page.
+fn one_file(alloc: Global) -> Result<FileList, AllocError> {
+    let mut files = FileList::new(alloc);
+    let name = Text::new(String::from_str(alloc, "f")?);
+    files.push(File { name, pages: 1 })?;
+    Ok(files)
+}
+
+fn open<R: Abort + AllocGlobal>(rt: &R, config: Config) -> Book {
+    let Ok(book) = Book::open(rt.alloc(), config) else {
+        panic!(rt; "no book")
     };
+    book
+}
+
+fn pass_of<R: Abort>(rt: &R, book: &mut Book) -> Pass {
+    let Ok(pass) = book.pass() else {
+        panic!(rt; "no pass")
+    };
+    pass
+}
+
+fn path<R: Abort + AllocGlobal>(rt: &R, path: &str) -> Text {
+    Text::new(String::from_str(rt.alloc(), path).expect(rt, "no memory"))
+}
+
+/// A page is accessed so, once or twice, evicted, and read twice. Returns what an audit finds, and how many entries there
+/// were.
+fn after<R: Abort + AllocGlobal>(
+    rt: &R,
+    config: Config,
+    place: Place,
+    first: &[Op],
+    lie: Lie,
+) -> (Result<(), First>, usize) {
+    let path = path(rt, "/a");
+    let mut disk = Disk::new(lie);
+    let mut book = open(rt, config);
+    let mut pass = pass_of(rt, &mut book);
+    begin(&mut book, &mut pass, path);
+    for op in first {
+        touch(&mut book, &mut pass, &mut disk, place, *op);
+    }
+    evict(&mut book, &mut pass, &mut disk);
+    touch(&mut book, &mut pass, &mut disk, place, Op::Read);
+    touch(&mut book, &mut pass, &mut disk, place, Op::Read);
+    let trace = book.close();
+    (audit(&trace), trace.len())
+}
+
+/// A page is written, evicted, read in and read.
+fn after_swap<R: Abort + AllocGlobal>(rt: &R, lie: Lie) -> (Result<(), First>, usize) {
+    let config = machine(1, FileList::new(rt.alloc()));
+    let place = Place::Virtual { page: 0, offset: 0 };
+    after(rt, config, place, &[Op::Write(5)], lie)
+}
+
+/// The same for a page of a file that is read, dropped, and read again.
+fn after_a_second_read<R: Abort + AllocGlobal>(rt: &R, lie: Lie) -> (Result<(), First>, usize) {
+    let config = machine(0, one_file(rt.alloc()).expect(rt, "no memory"));
     let place = Place::File {
         file: 0,
         page: 0,
         offset: 0,
     };
-    let path = Text::new(String::from_str(alloc, "/a")?);
-    let mut disk = Disk::new(lie);
-    let mut book = Book::open(alloc, config)?;
-    let Ok(mut pass) = book.pass() else {
-        let _ = book.close();
-        return Err("no pass".into());
-    };
-    begin(&mut book, &mut pass, path);
-    touch(&mut book, &mut pass, &mut disk, place, Op::Read);
-    touch(&mut book, &mut pass, &mut disk, place, Op::Read);
-    evict(&mut book, &mut pass, &mut disk);
-    touch(&mut book, &mut pass, &mut disk, place, Op::Read);
-    touch(&mut book, &mut pass, &mut disk, place, Op::Read);
-    let trace = book.close();
-    Ok((audit(&trace), trace.len()))
+    after(rt, config, place, &[Op::Read, Op::Read], lie)
 }
 
 #[test]
-fn an_honest_device_passes(rt: HostRuntime) -> Result<(), Fail> {
-    assert_eq!(rt; after_swap(rt.alloc(), Lie::None)?, (Ok(()), 8));
-    assert_eq!(rt; after_a_second_read(rt.alloc(), Lie::None)?, (Ok(()), 9));
-    Ok(())
+fn an_honest_device_passes(rt: HostRuntime) {
+    let found = [
+        after_swap(&rt, Lie::None),
+        after_a_second_read(&rt, Lie::None),
+    ];
+    assert_eq!(rt; found, [(Ok(()), 8), (Ok(()), 9)]);
 }
 
 #[test]
-fn a_wrong_arrival_is_named(rt: HostRuntime) -> Result<(), Fail> {
+fn a_wrong_arrival_is_named(rt: HostRuntime) {
     let arrival = Err(First { entry: 7 });
-    assert_eq!(rt; after_swap(rt.alloc(), Lie::OneMore)?, (arrival, 8));
-    assert_eq!(rt; after_swap(rt.alloc(), Lie::Spoiled)?, (arrival, 8));
-    Ok(())
+    let found = [after_swap(&rt, Lie::OneMore), after_swap(&rt, Lie::Spoiled)];
+    assert_eq!(rt; found, [(arrival, 8), (arrival, 8)]);
 }
 
 #[test]
-fn a_files_first_arrival_is_what_it_had(rt: HostRuntime) -> Result<(), Fail> {
-    let first = after_a_second_read(rt.alloc(), Lie::OneMore)?;
-    assert_eq!(rt; first, (Ok(()), 9));
-    let second = after_a_second_read(rt.alloc(), Lie::AtTheSecondRead)?;
-    assert_eq!(rt; second, (Err(First { entry: 8 }), 9));
-    Ok(())
+fn a_files_first_arrival_is_what_it_had(rt: HostRuntime) {
+    let found = [
+        after_a_second_read(&rt, Lie::OneMore),
+        after_a_second_read(&rt, Lie::AtTheSecondRead),
+    ];
+    assert_eq!(rt; found, [(Ok(()), 9), (Err(First { entry: 8 }), 9)]);
 }
 
 /// Frees a virtual page of the task. This requires nothing but the task.
@@ -265,39 +280,33 @@ fn free(book: &mut Book, pass: &mut Pass, task: TaskId) {
     }
 }
 
+fn look_up(book: &mut Book, pass: &mut Pass, path: Text) {
+    if pass.reserve(1).is_ok() {
+        let _ = book.find(pass, path);
+    }
+}
+
+/// Whether the entries are counted from 1 on.
+fn are_counted(entries: &[Entry]) -> bool {
+    for (at, entry) in entries.iter().enumerate() {
+        if entry.count != at as u64 + 1 {
+            return false;
+        }
+    }
+    true
+}
+
 // Two events, a refused one, a path that is looked up, and another event.
 #[test]
-fn what_is_refused_is_kept_and_leaves_no_entry(rt: HostRuntime) -> Result<(), Fail> {
-    let config = Config {
-        frames: 2,
-        swap: 0,
-        files: FileList::new(rt.alloc()),
-        watermarks: Watermarks { low: 0, high: 0 },
-        trace: 100,
-        turns: 1000,
-        recursive: false,
-        placement: Placement::Own,
-        page_size: PageSize::of_4k(),
-    };
-    let made = Text::new(String::from_str(rt.alloc(), "/a")?);
-    let sought = Text::new(String::from_str(rt.alloc(), "/b")?);
-    let mut book = Book::open(rt.alloc(), config)?;
-    let Ok(mut pass) = book.pass() else {
-        let _ = book.close();
-        return Err("no pass".into());
-    };
+fn what_is_refused_is_kept_and_leaves_no_entry(rt: HostRuntime) {
+    let (made, sought) = (path(&rt, "/a"), path(&rt, "/b"));
+    let mut book = open(&rt, machine(0, FileList::new(rt.alloc())));
+    let mut pass = pass_of(&rt, &mut book);
     begin(&mut book, &mut pass, made);
     free(&mut book, &mut pass, TaskId(9));
-    if pass.reserve(1).is_ok() {
-        let _ = book.find(&mut pass, sought);
-    }
+    look_up(&mut book, &mut pass, sought);
     free(&mut book, &mut pass, TaskId(1));
     let trace = book.close();
-    assert_eq!(rt; pass.kept().len(), 5);
-    assert_eq!(rt; pass.count(), 3);
-    assert_eq!(rt; trace.len(), 3);
-    for (at, entry) in trace.entries().iter().enumerate() {
-        assert_eq!(rt; entry.count, at as u64 + 1);
-    }
-    Ok(())
+    assert_eq!(rt; (pass.kept().len(), pass.count(), trace.len()), (5, 3, 3));
+    assert!(rt; are_counted(trace.entries()));
 }

@@ -58,21 +58,32 @@ pub fn reach(steps: &mut Vec<Step>, op: Op) -> Result<(), AllocError> {
     add(steps, Actor::Task(1), Command::Access { place, op })
 }
 
+/// The shell reclaims a page from the root.
+fn reclaim<R: AllocGlobal>(rt: &R, steps: &mut Vec<Step>) -> Result<(), AllocError> {
+    let path = text(rt, "/")?;
+    let file = text(rt, "memory.reclaim")?;
+    let amount = text(rt, "4096")?;
+    let command = Command::Set {
+        path,
+        file,
+        text: amount,
+    };
+    add(steps, Actor::Shell, command)
+}
+
 /// The device. Its last block has a 9 at that byte.
 fn device<R: Abort + AllocGlobal>(rt: &R) -> Result<MemDevice, AllocError> {
     let mut device = MemDevice::new(rt.alloc(), 3, &[], &[])?;
     let mut bytes = [0; PAGE_BYTES];
     bytes[5] = 9;
-    assert!(rt; device.blocks() == 3);
-    assert!(rt; device.write(2, &bytes).is_ok());
+    assert!(rt; device.blocks() == 3 && device.write(2, &bytes).is_ok());
     Ok(device)
 }
 
 /// That byte of the device's last block.
 fn stored<R: Abort>(rt: &R, device: &mut MemDevice) -> u8 {
     let mut bytes = [0; PAGE_BYTES];
-    assert!(rt; device.blocks() == 3);
-    assert!(rt; device.read(2, &mut bytes).is_ok());
+    assert!(rt; device.blocks() == 3 && device.read(2, &mut bytes).is_ok());
     bytes[5]
 }
 
@@ -113,20 +124,9 @@ fn a_device_has_what_was_written_home(rt: HostRuntime) -> Result<(), Fail> {
     let Ok(answers) = run(rt.alloc(), config, &mut device, &steps) else {
         panic!(rt; "no answers")
     };
-    assert!(rt; is_byte(answers.get(2), 7));
-    assert_eq!(rt; stored(&rt, &mut device), 9);
-    let path = text(&rt, "/")?;
-    let file = text(&rt, "memory.reclaim")?;
-    let amount = text(&rt, "4096")?;
-    add(
-        &mut steps,
-        Actor::Shell,
-        Command::Set {
-            path,
-            file,
-            text: amount,
-        },
-    )?;
+    let before = stored(&rt, &mut device);
+    assert!(rt; is_byte(answers.get(2), 7) && before == 9);
+    reclaim(&rt, &mut steps)?;
     let config = machine(&rt)?;
     assert!(rt; run(rt.alloc(), config, &mut device, &steps).is_ok());
     assert_eq!(rt; stored(&rt, &mut device), 7);

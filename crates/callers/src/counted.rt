@@ -11,10 +11,8 @@ fn an_event_counts_at_its_group_and_in_the_totals_above(rt: HostRuntime) -> Resu
     let mut events = Events::new(rt.alloc())?;
     events.add(group, root)?;
     events.count(group, Key::Max);
-    assert_eq!(rt; (events.totals(root).max, events.locals(root).max), (1, 0));
-    assert_eq!(rt;
-        (events.totals(group).max, events.locals(group).max),
-        (1, 1)
-    );
+    let totals = [events.totals(root).max, events.totals(group).max];
+    let locals = [events.locals(root).max, events.locals(group).max];
+    assert_eq!(rt; (totals, locals), ([1, 1], [0, 1]));
     Ok(())
 }

@@ -10,10 +10,10 @@ use live::{Live, Opened, Pass, Report, Roll, Unfinished, Unnamed, Worker, work_t
 use machine::command::{Actor, Command, Reply};
 use machine::config::Config;
 use scripts::{Mode, Script, read};
-use std::alloc::Global;
+use std::alloc::{AllocError, Global};
 use std::marker::Brand;
+use std::process::Abort;
 use std::sync::Wait;
-use std::test::Fail;
 use std::thread::Threads;
 use trace::First;
 
@@ -32,12 +32,17 @@ pub struct Ended {
 }
 
 impl Ended {
-    /// The answers to the worker of this row.
-    pub fn row(&self, number: usize) -> Option<&str> {
-        match self.rows.get(number) {
-            Some(row) => Some(row.as_str()),
-            None => None,
+    /// All answers: those before, those to each worker, and those behind, with a line `--` between.
+    pub fn told(&self, alloc: Global) -> Result<String, AllocError> {
+        let mut text = String::new(alloc);
+        text.push_str(&self.before)?;
+        for row in &self.rows {
+            text.push_str("--\n")?;
+            text.push_str(row)?;
         }
+        text.push_str("--\n")?;
+        text.push_str(&self.behind)?;
+        Ok(text)
     }
 }
 
@@ -47,18 +52,18 @@ pub fn is_fine(ended: &Ended) -> bool {
 }
 
 /// What these lines ask for, without header lines.
-pub fn asked(alloc: Global, lines: &str) -> Result<Vec<(Actor, Command)>, Fail> {
+pub fn asked(alloc: Global, lines: &str) -> Option<Vec<(Actor, Command)>> {
     match read(alloc, lines.as_bytes(), Mode::Run) {
-        Ok(script) => Ok(script.setup),
-        Err(_) => Err("a faulty line".into()),
+        Ok(script) => Some(script.setup),
+        Err(_) => None,
     }
 }
 
-fn print_all(text: &mut String, answers: &[Reply]) -> Result<(), Fail> {
+fn print_all(text: &mut String, answers: &[Reply]) -> Option<()> {
     for reply in answers {
-        reply.print(text)?;
+        reply.print(text).ok()?;
     }
-    Ok(())
+    Some(())
 }
 
 /// Runs each command, one after the other, with one pass. Returns the answers.
@@ -68,16 +73,16 @@ pub fn in_turn<L: Opened, R: Wait>(
     live: &Live<L, Gate>,
     pass: &mut Pass<L>,
     asked: Vec<(Actor, Command)>,
-) -> Result<String, Fail> {
+) -> Option<String> {
     let mut text = String::new(alloc);
     for (actor, command) in asked {
         let answers = match actor {
             Actor::Task(task) => live.task(rt, pass, task, &[command]),
             _ => live.control(rt, pass, &[command]),
         };
-        print_all(&mut text, &answers?)?;
+        print_all(&mut text, &answers.ok()?)?;
     }
-    Ok(text)
+    Some(text)
 }
 
 /// A worker for commands of one actor.
@@ -87,17 +92,75 @@ fn worker<L: Opened, R: Wait>(
     live: &Live<L, Gate>,
     roll: &mut Roll<L>,
     asked: Vec<(Actor, Command)>,
-) -> Result<Worker<L>, Fail> {
+) -> Option<Worker<L>> {
     let mut who = Actor::Control;
     let mut commands = Vec::new(alloc);
     for (actor, command) in asked {
         if let Actor::Task(_) = actor {
             who = actor;
         }
-        commands.push(command)?;
+        commands.push(command).ok()?;
     }
-    let pass = live.pass(rt, roll)?;
-    Ok(Worker::new(alloc, who, pass, commands))
+    let pass = live.pass(rt, roll).ok()?;
+    Some(Worker::new(alloc, who, pass, commands))
+}
+
+/// A worker for each row.
+fn hire<L: Opened, R: Wait>(
+    rt: &R,
+    alloc: Global,
+    live: &Live<L, Gate>,
+    roll: &mut Roll<L>,
+    rows: Vec<Vec<(Actor, Command)>>,
+) -> Option<Vec<Worker<L>>> {
+    let mut workers = Vec::new(alloc);
+    for asked in rows {
+        workers.push(worker(rt, alloc, live, roll, asked)?).ok()?;
+    }
+    Some(workers)
+}
+
+fn answers_to<L: Opened>(alloc: Global, worker: &Worker<L>) -> Option<String> {
+    let mut text = String::new(alloc);
+    print_all(&mut text, worker.answers().ok()?)?;
+    Some(text)
+}
+
+fn answers_to_each<L: Opened>(alloc: Global, workers: &[Worker<L>]) -> Option<Vec<String>> {
+    let mut rows = Vec::new(alloc);
+    for worker in workers {
+        rows.push(answers_to(alloc, worker)?).ok()?;
+    }
+    Some(rows)
+}
+
+/// The passes of the workers and the daemon.
+fn all_passes<L: Opened>(
+    alloc: Global,
+    workers: Vec<Worker<L>>,
+    daemon: Pass<L>,
+) -> Option<Vec<Pass<L>>> {
+    let mut passes = Vec::new(alloc);
+    for worker in workers {
+        passes.push(worker.into_pass()).ok()?;
+    }
+    passes.push(daemon).ok()?;
+    Some(passes)
+}
+
+/// Each row is run by a worker of its own, all at once, with the daemon.
+fn together<L: Opened + Send + Sync, R: Threads + Wait + Sync>(
+    rt: &R,
+    alloc: Global,
+    live: &Live<L, Gate>,
+    roll: &mut Roll<L>,
+    rows: Vec<Vec<(Actor, Command)>>,
+) -> Option<(Vec<String>, Vec<Pass<L>>)> {
+    let daemon = live.pass(rt, roll).ok()?;
+    let workers = hire(rt, alloc, live, roll, rows)?;
+    let (workers, daemon) = work_together(rt, live, workers, daemon);
+    let answers = answers_to_each(alloc, &workers)?;
+    Some((answers, all_passes(alloc, workers, daemon)?))
 }
 
 /// What is known before the end.
@@ -117,27 +180,13 @@ fn work<L: Opened + Send + Sync, R: Threads + Wait + Sync>(
     before: Vec<(Actor, Command)>,
     rows: Vec<Vec<(Actor, Command)>>,
     behind: Vec<(Actor, Command)>,
-) -> Result<Worked<L>, Fail> {
-    let mut shell = live.pass(rt, roll)?;
-    let daemon = live.pass(rt, roll)?;
+) -> Option<Worked<L>> {
+    let mut shell = live.pass(rt, roll).ok()?;
     let before = in_turn(rt, alloc, live, &mut shell, before)?;
-    let mut workers = Vec::new(alloc);
-    for asked in rows {
-        workers.push(worker(rt, alloc, live, roll, asked)?)?;
-    }
-    let (workers, daemon) = work_together(rt, live, workers, daemon);
-    let mut rows = Vec::new(alloc);
-    let mut passes = Vec::new(alloc);
-    for worker in workers {
-        let mut text = String::new(alloc);
-        print_all(&mut text, worker.answers()?)?;
-        rows.push(text)?;
-        passes.push(worker.into_pass())?;
-    }
+    let (rows, mut passes) = together(rt, alloc, live, roll, rows)?;
     let behind = in_turn(rt, alloc, live, &mut shell, behind)?;
-    passes.push(shell)?;
-    passes.push(daemon)?;
-    Ok(Worked {
+    passes.push(shell).ok()?;
+    Some(Worked {
         before,
         rows,
         behind,
@@ -151,11 +200,11 @@ pub fn finish<L: Opened>(
     live: Live<L, Gate>,
     passes: Vec<Pass<L>>,
     roll: Roll<L>,
-) -> Result<(u32, Report<Gate>), Fail> {
+) -> Option<(u32, Report<Gate>)> {
     let mut passes = passes;
     let last = passes.pop();
     match live.finish(passes, roll) {
-        Ok(_) => Err("finished without a pass".into()),
+        Ok(_) => None,
         Err((live, mut passes, cause, roll)) => {
             let Unfinished::PassMissing(given) = cause;
             let pushed = match last {
@@ -164,13 +213,13 @@ pub fn finish<L: Opened>(
             };
             if !pushed {
                 live.give_up(roll);
-                return Err("no pass".into());
+                return None;
             }
             match live.finish(passes, roll) {
-                Ok(report) => Ok((given, report)),
+                Ok(report) => Some((given, report)),
                 Err((live, _passes, _cause, roll)) => {
                     live.give_up(roll);
-                    Err("not finished".into())
+                    None
                 }
             }
         }
@@ -186,20 +235,20 @@ fn run_over<L: Opened + Send + Sync, R: Threads + Wait + Sync>(
     before: Vec<(Actor, Command)>,
     rows: Vec<Vec<(Actor, Command)>>,
     behind: Vec<(Actor, Command)>,
-) -> Result<Ended, Fail>
+) -> Option<Ended>
     requires named { unnamed ≡ L.table }
     requires opened { opening_of config ≡ L.opening }
     requires fits { blocks_in L.opening ≤ gate.count }
 {
     let Ok((live, mut roll)) = Live::<L, Gate>::open(alloc, config, gate, unnamed) else {
-        return Err("no machine".into());
+        return None;
     };
     match work(rt, alloc, &live, &mut roll, before, rows, behind) {
-        Err(fail) => {
+        None => {
             live.give_up(roll);
-            Err(fail)
+            None
         }
-        Ok(worked) => {
+        Some(worked) => {
             let Worked {
                 before,
                 rows,
@@ -214,7 +263,7 @@ fn run_over<L: Opened + Send + Sync, R: Threads + Wait + Sync>(
                 passes: _,
                 device: _,
             } = report;
-            Ok(Ended {
+            Some(Ended {
                 before,
                 rows,
                 behind,
@@ -227,7 +276,8 @@ fn run_over<L: Opened + Send + Sync, R: Threads + Wait + Sync>(
 }
 
 /// Runs the lines before, with their header, one after the other. Then each row is run by a worker of its own, all
-/// at once, with the daemon. Then the lines `behind` are run.
+/// at once, with the daemon. Then the lines `behind` are run. There is no result if a line is faulty, a call is refused, or
+/// memory runs out.
 pub fn crowd<R: Threads + Wait + Sync>(
     rt: &R,
     alloc: Global,
@@ -235,20 +285,51 @@ pub fn crowd<R: Threads + Wait + Sync>(
     before: &str,
     rows: &[&str],
     behind: &str,
-) -> Result<Ended, Fail> {
+) -> Option<Ended> {
     let Ok(script) = read(alloc, before.as_bytes(), Mode::Run) else {
-        return Err("a faulty line".into());
+        return None;
     };
     let Script { config, setup, .. } = script;
     let Some(blocks) = blocks_for(&config) else {
-        return Err("too large".into());
+        return None;
     };
-    let gate = Gate::new(alloc, blocks, manner)?;
+    let gate = Gate::new(alloc, blocks, manner).ok()?;
     let mut workers = Vec::new(alloc);
     for lines in rows {
-        workers.push(asked(alloc, lines)?)?;
+        workers.push(asked(alloc, lines)?).ok()?;
     }
     let behind = asked(alloc, behind)?;
-    let unnamed = Unnamed::new(alloc)?;
+    let unnamed = Unnamed::new(alloc).ok()?;
     run_over::<Brand, R>(rt, alloc, config, gate, unnamed, setup, workers, behind)
+}
+
+fn is_one_of(text: &str, wanted: &[&str]) -> bool {
+    for one in wanted {
+        if *one == text {
+            return true;
+        }
+    }
+    false
+}
+
+/// The answers are one of these texts: those before, those to each worker, and those behind, with a line `--` between. They
+/// are those of the trace, and the audit finds nothing wrong. There was a pass for the lines before and behind, one for the
+/// daemon, and one for each row.
+pub fn answers<R: Abort + AllocGlobal + Threads + Wait + Sync>(
+    rt: &R,
+    manner: Manner,
+    before: &str,
+    rows: &[&str],
+    behind: &str,
+    wanted: &[&str],
+) {
+    let Some(ended) = crowd(rt, rt.alloc(), manner, before, rows, behind) else {
+        panic!(rt; "no run")
+    };
+    let text = ended.told(rt.alloc()).expect(rt, "no memory");
+    assert!(rt; is_one_of(&text, wanted), "{text}");
+    assert_eq!(rt;
+        (ended.given as usize, is_fine(&ended)),
+        (rows.len() + 2, true)
+    );
 }

@@ -28,11 +28,19 @@ fn remove(tree: &mut Tree, path: &str) -> bool {
 #[test]
 fn a_group_is_made_below_the_group_of_its_path(rt: HostRuntime) -> Result<(), Fail> {
     let mut tree = Tree::open(rt.alloc())?;
-    assert_eq!(rt; make(&mut tree, "/a/b"), Err(Refusal::NoEntry));
-    assert_eq!(rt; make(&mut tree, "/a"), Ok(GroupId(1)));
-    assert_eq!(rt; make(&mut tree, "/a/b"), Ok(GroupId(2)));
-    assert_eq!(rt; tree.find("/a/b"), Some(GroupId(2)));
-    assert_eq!(rt; tree.parent(GroupId(2)), Some(GroupId(1)));
+    let made = [
+        make(&mut tree, "/a/b"),
+        make(&mut tree, "/a"),
+        make(&mut tree, "/a/b"),
+    ];
+    assert_eq!(rt;
+        made,
+        [Err(Refusal::NoEntry), Ok(GroupId(1)), Ok(GroupId(2))]
+    );
+    assert_eq!(rt;
+        [tree.find("/a/b"), tree.parent(GroupId(2))],
+        [Some(GroupId(2)), Some(GroupId(1))]
+    );
     assert!(rt; tree.is_under(GroupId::ROOT, GroupId(2)));
     Ok(())
 }
@@ -40,14 +48,19 @@ fn a_group_is_made_below_the_group_of_its_path(rt: HostRuntime) -> Result<(), Fa
 #[test]
 fn a_removed_path_is_made_again_with_another_number(rt: HostRuntime) -> Result<(), Fail> {
     let mut tree = Tree::open(rt.alloc())?;
-    assert_eq!(rt; make(&mut tree, "/a"), Ok(GroupId(1)));
-    assert!(rt; remove(&mut tree, "/a"));
-    assert!(rt; !remove(&mut tree, "/a"));
-    assert_eq!(rt; tree.find("/a"), None);
-    assert_eq!(rt; tree.parent(GroupId(1)), Some(GroupId::ROOT));
-    assert_eq!(rt; make(&mut tree, "/a"), Ok(GroupId(2)));
-    assert_eq!(rt; make(&mut tree, "/a/b"), Ok(GroupId(3)));
-    assert!(rt; !remove(&mut tree, "/a"));
-    assert!(rt; !remove(&mut tree, "/"));
+    let first = make(&mut tree, "/a");
+    let removed = [remove(&mut tree, "/a"), remove(&mut tree, "/a")];
+    let groups = [tree.find("/a"), tree.parent(GroupId(1))];
+    let again = [make(&mut tree, "/a"), make(&mut tree, "/a/b")];
+    let refused = [remove(&mut tree, "/a"), remove(&mut tree, "/")];
+    assert_eq!(rt;
+        (first, groups, again),
+        (
+            Ok(GroupId(1)),
+            [None, Some(GroupId::ROOT)],
+            [Ok(GroupId(2)), Ok(GroupId(3))]
+        )
+    );
+    assert_eq!(rt; (removed, refused), ([true, false], [false, false]));
     Ok(())
 }

@@ -98,23 +98,27 @@ fn make<R: Abort>(rt: &R, state: &mut State) {
 #[test]
 fn a_frame_tells_the_page_that_is_held_in_it(rt: HostRuntime) -> Result<(), Fail> {
     let mut state = open(&rt)?;
-    assert_eq!(rt; state.pages().holder(0), None);
+    assert!(rt; state.pages().holder(0).is_none());
     state.is_joined();
     assert!(rt; state.spaces().number_refusal(TASK).is_none());
     assert!(rt; state.spawn(TASK, GroupId::ROOT).is_ok());
 
     // A page that is being read in is not held yet. If the read-in fails, there is no page.
     let ticket = begin(&rt, &mut state);
-    assert_eq!(rt; (state.pages().holder(0), state.free_frames()), (None, 0));
+    let coming = (state.pages().holder(0), state.free_frames());
     end(&rt, &mut state, ticket, End::OnBlock);
-    assert_eq!(rt; (state.pages().holder(0), state.free_frames()), (None, 1));
+    let failed = (state.pages().holder(0), state.free_frames());
 
     // A page is held until it is freed. Then another one is held in the same frame.
     make(&rt, &mut state);
-    assert_eq!(rt; state.pages().holder(0), Some(shown(&rt, &state, TASK)));
-    assert_eq!(rt; state.pages().holder(1), None);
+    let made = Some(shown(&rt, &state, TASK));
+    assert_eq!(rt;
+        [state.pages().holder(0), state.pages().holder(1)],
+        [made, None]
+    );
     state.unmap(TASK, 0);
-    assert_eq!(rt; (state.pages().holder(0), state.free_frames()), (None, 1));
+    let freed = (state.pages().holder(0), state.free_frames());
+    assert_eq!(rt; [coming, failed, freed], [(None, 0), (None, 1), (None, 1)]);
     let ticket = begin(&rt, &mut state);
     end(&rt, &mut state, ticket, End::InFrame);
     let held = state.pages().holder(0);

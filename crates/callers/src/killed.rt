@@ -11,14 +11,18 @@ use std::test::Fail;
 fn the_task_with_the_most_mappings_is_taken(rt: HostRuntime) -> Result<(), Fail> {
     let tree = Tree::open(rt.alloc())?;
     let mut spaces = Spaces::new(rt.alloc(), 1)?;
-    assert_eq!(rt; victim(&tree, &spaces, GroupId::ROOT), None);
+    let of_none = victim(&tree, &spaces, GroupId::ROOT);
     assert!(rt; spaces.number_refusal(TaskId(1)).is_none());
     spaces.spawn(TaskId(1), GroupId::ROOT)?;
     assert!(rt; spaces.number_refusal(TaskId(2)).is_none());
     spaces.spawn(TaskId(2), GroupId::ROOT)?;
-    assert_eq!(rt; victim(&tree, &spaces, GroupId::ROOT), Some(TaskId(1)));
+    let of_equal = victim(&tree, &spaces, GroupId::ROOT);
     spaces.map(TaskId(2), 0, PageId(0));
-    assert_eq!(rt; victim(&tree, &spaces, GroupId::ROOT), Some(TaskId(2)));
+    let of_larger = victim(&tree, &spaces, GroupId::ROOT);
+    assert_eq!(rt;
+        [of_none, of_equal, of_larger],
+        [None, Some(TaskId(1)), Some(TaskId(2))]
+    );
     Ok(())
 }
 
@@ -33,12 +37,13 @@ fn a_group_with_the_flag_dies_with_its_task(rt: HostRuntime) -> Result<(), Fail>
         victim: TaskId(1),
         group: None,
     });
-    assert_eq!(rt; victims(&tree, &spaces, &flags, GroupId::ROOT), alone);
+    let first = victims(&tree, &spaces, &flags, GroupId::ROOT);
     flags.set_flag(GroupId::ROOT, OomGroup::Whole);
     let with_group = Some(Chosen {
         victim: TaskId(1),
         group: Some(GroupId::ROOT),
     });
-    assert_eq!(rt; victims(&tree, &spaces, &flags, GroupId::ROOT), with_group);
+    let second = victims(&tree, &spaces, &flags, GroupId::ROOT);
+    assert_eq!(rt; [first, second], [alone, with_group]);
     Ok(())
 }

@@ -7,27 +7,33 @@ use machine::config::{Config, FileList, Placement, Watermarks};
 use machine::event::{Op, Place};
 use machine::id::{GroupId, TaskId};
 use machine::page_size::PageSize;
-use machine::refusal::Refusal;
-use std::alloc::Global;
-use std::test::Fail;
+use std::process::Abort;
 use turns::automaton::spend;
 
 /// Three frames, four swap blocks, and room for this number of entries. Task 1 is in the root.
-fn open(alloc: Global, trace: u32) -> Result<Book, Refusal> {
-    Book::open(
-        alloc,
-        Config {
-            frames: 3,
-            swap: 4,
-            files: FileList::new(alloc),
-            watermarks: Watermarks { low: 0, high: 0 },
-            trace,
-            turns: 1000,
-            recursive: false,
-            placement: Placement::Own,
-            page_size: PageSize::of_4k(),
-        },
-    )
+fn open<R: Abort + AllocGlobal>(rt: &R, trace: u32) -> Book {
+    let config = Config {
+        frames: 3,
+        swap: 4,
+        files: FileList::new(rt.alloc()),
+        watermarks: Watermarks { low: 0, high: 0 },
+        trace,
+        turns: 1000,
+        recursive: false,
+        placement: Placement::Own,
+        page_size: PageSize::of_4k(),
+    };
+    let Ok(book) = Book::open(rt.alloc(), config) else {
+        panic!(rt; "no book")
+    };
+    book
+}
+
+fn pass_of<R: Abort>(rt: &R, book: &mut Book) -> Pass {
+    let Ok(pass) = book.pass() else {
+        panic!(rt; "no pass")
+    };
+    pass
 }
 
 fn spawn(book: &mut Book, pass: &mut Pass) {
@@ -137,15 +143,12 @@ fn unmerged(book: &mut Book, pass: &mut Pass) -> [bool; 3] {
 }
 
 #[test]
-fn a_hit_marks_nothing_by_itself(rt: HostRuntime) -> Result<(), Fail> {
-    let mut book = open(rt.alloc(), 1000)?;
-    let found = match book.pass() {
-        Ok(mut pass) => Some(unmerged(&mut book, &mut pass)),
-        Err(_) => None,
-    };
+fn a_hit_marks_nothing_by_itself(rt: HostRuntime) {
+    let mut book = open(&rt, 1000);
+    let mut pass = pass_of(&rt, &mut book);
+    let found = unmerged(&mut book, &mut pass);
     let _ = book.close();
-    assert_eq!(rt; found, Some([false, true, true]));
-    Ok(())
+    assert_eq!(rt; found, [false, true, true]);
 }
 
 /// Returns which pages stay if page 0 is marked. Also returns how many more requests the pass keeps for that, and
@@ -164,15 +167,12 @@ fn merged(book: &mut Book, pass: &mut Pass) -> ([bool; 3], usize, usize) {
 }
 
 #[test]
-fn a_merge_marks_the_page_of_its_frame(rt: HostRuntime) -> Result<(), Fail> {
-    let mut book = open(rt.alloc(), 1000)?;
-    let found = match book.pass() {
-        Ok(mut pass) => Some(merged(&mut book, &mut pass)),
-        Err(_) => None,
-    };
+fn a_merge_marks_the_page_of_its_frame(rt: HostRuntime) {
+    let mut book = open(&rt, 1000);
+    let mut pass = pass_of(&rt, &mut book);
+    let found = merged(&mut book, &mut pass);
     let _ = book.close();
-    assert_eq!(rt; found, Some(([true, false, true], 0, 0)));
-    Ok(())
+    assert_eq!(rt; found, ([true, false, true], 0, 0));
 }
 
 /// Page 3 is in the frame that page 0 had, when that frame is marked. Then two pages are evicted. Returns whether
@@ -208,15 +208,12 @@ fn byte(book: &mut Book, pass: &mut Pass, page: u32) -> Option<u8> {
 }
 
 #[test]
-fn a_frame_that_is_given_out_again_marks_its_new_page(rt: HostRuntime) -> Result<(), Fail> {
-    let mut book = open(rt.alloc(), 1000)?;
-    let found = match book.pass() {
-        Ok(mut pass) => Some(given_again(&mut book, &mut pass)),
-        Err(_) => None,
-    };
+fn a_frame_that_is_given_out_again_marks_its_new_page(rt: HostRuntime) {
+    let mut book = open(&rt, 1000);
+    let mut pass = pass_of(&rt, &mut book);
+    let found = given_again(&mut book, &mut pass);
     let _ = book.close();
-    assert_eq!(rt; found, Some((true, [None, None, Some(13)])));
-    Ok(())
+    assert_eq!(rt; found, (true, [None, None, Some(13)]));
 }
 
 /// The trace is full. Returns the answers to a read, and to merges of a frame and of no frame.
@@ -228,13 +225,10 @@ fn full(book: &mut Book, pass: &mut Pass) -> (bool, [bool; 2], usize) {
 }
 
 #[test]
-fn a_merge_is_answered_where_the_trace_is_full(rt: HostRuntime) -> Result<(), Fail> {
-    let mut book = open(rt.alloc(), 7)?;
-    let found = match book.pass() {
-        Ok(mut pass) => Some(full(&mut book, &mut pass)),
-        Err(_) => None,
-    };
+fn a_merge_is_answered_where_the_trace_is_full(rt: HostRuntime) {
+    let mut book = open(&rt, 7);
+    let mut pass = pass_of(&rt, &mut book);
+    let found = full(&mut book, &mut pass);
     let _ = book.close();
-    assert_eq!(rt; found, Some((true, [true, true], 7)));
-    Ok(())
+    assert_eq!(rt; found, (true, [true, true], 7));
 }

@@ -292,10 +292,9 @@ fn two_tasks_share_a_frame(rt: HostRuntime) -> Result<(), Fail> {
     let alloc = rt.alloc();
     let commands = setup(alloc)?;
     let ended = run_two(&rt, alloc, machine(alloc), &commands, &keep(5), &keep(6))?;
-    assert_eq!(rt; ended.answers.shell.len(), 3);
-    assert!(rt; are_done(&ended.answers.shell));
-    assert!(rt; is_kept(&ended.answers.one, 5));
-    assert!(rt; is_kept(&ended.answers.two, 6));
+    let answers = &ended.answers;
+    assert!(rt; answers.shell.len() == 3 && are_done(&answers.shell));
+    assert!(rt; is_kept(&answers.one, 5) && is_kept(&answers.two, 6));
     assert!(rt; ended.report.audit.is_ok());
     Ok(())
 }

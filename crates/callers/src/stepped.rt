@@ -10,7 +10,7 @@ use driver::{Sink, Stepper};
 use machine::command::{Actor, Step};
 use machine::config::Config;
 use machine::event::Op;
-use std::alloc::Global;
+use std::alloc::{AllocError, Global};
 use std::test::Fail;
 use trace::Trace;
 
@@ -39,19 +39,24 @@ fn run_by_steps<S: Sink>(
     Some(run.close())
 }
 
+/// The steps of a task that begins, and then accesses the file so.
+fn accessing<R: AllocGlobal>(rt: &R, ops: &[Op]) -> Result<Vec<Step>, AllocError> {
+    let mut steps = Vec::new(rt.alloc());
+    begin(rt, &mut steps)?;
+    for op in ops {
+        reach(&mut steps, *op)?;
+    }
+    Ok(steps)
+}
+
 #[test]
 fn a_run_by_steps_answers_as_one_of_all_steps(rt: HostRuntime) -> Result<(), Fail> {
     let device = MemDevice::new(rt.alloc(), 3, &[], &[])?;
-    let mut steps = Vec::new(rt.alloc());
-    begin(&rt, &mut steps)?;
-    reach(&mut steps, Op::Write(7))?;
-    reach(&mut steps, Op::Read)?;
+    let steps = accessing(&rt, &[Op::Write(7), Op::Read])?;
     let mut answers = Vec::new(rt.alloc());
     let config = machine(&rt)?;
     let ran = run_by_steps(rt.alloc(), config, device, &steps, &mut answers);
-    assert!(rt; matches!(ran, Some(_)));
-    assert_eq!(rt; answers.len(), 3);
-    assert!(rt; is_byte(answers.get(2), 7));
+    assert!(rt; matches!(ran, Some(_)) && answers.len() == 3 && is_byte(answers.get(2), 7));
     Ok(())
 }
 
@@ -60,28 +65,24 @@ fn a_run_by_steps_answers_as_one_of_all_steps(rt: HostRuntime) -> Result<(), Fai
 #[test]
 fn a_group_is_looked_at_between_two_steps(rt: HostRuntime) -> Result<(), Fail> {
     let device = MemDevice::new(rt.alloc(), 3, &[], &[])?;
-    let mut steps = Vec::new(rt.alloc());
-    begin(&rt, &mut steps)?;
-    reach(&mut steps, Op::Read)?;
+    let steps = accessing(&rt, &[Op::Read])?;
     assert!(rt; steps.len() == 4);
     let mut answers = Vec::new(rt.alloc());
     let config = machine(&rt)?;
     let Ok(mut run) = Stepper::open(rt.alloc(), config, device) else {
         panic!(rt; "not opened")
     };
-    assert!(rt; run.step(0, &steps[0], &mut answers).is_ok());
-    assert!(rt; run.is_under_way(Actor::Shell));
-    assert!(rt; answers.is_empty());
-    assert!(rt; run.step(1, &steps[1], &mut answers).is_ok());
-    assert!(rt; !run.is_under_way(Actor::Shell));
-    assert_eq!(rt; answers.len(), 1);
-    assert!(rt; run.step(2, &steps[2], &mut answers).is_ok());
-    assert_eq!(rt; run.book().look("/").map(|look| look.usage), Some(0));
-    assert!(rt; run.step(3, &steps[3], &mut answers).is_ok());
-    assert_eq!(rt; run.book().look("/").map(|look| look.usage), Some(1));
-    assert_eq!(rt; answers.len(), 2);
+    let first = run.step(0, &steps[0], &mut answers).is_ok();
+    let begun = (run.is_under_way(Actor::Shell), answers.len());
+    let second = run.step(1, &steps[1], &mut answers).is_ok();
+    let ended = (run.is_under_way(Actor::Shell), answers.len());
+    assert_eq!(rt; (begun, ended), ((true, 0), (false, 1)));
+    let third = run.step(2, &steps[2], &mut answers).is_ok();
+    let before = run.book().look("/").map(|look| look.usage);
+    let fourth = run.step(3, &steps[3], &mut answers).is_ok();
+    let after = run.book().look("/").map(|look| look.usage);
+    assert_eq!(rt; (before, after, answers.len()), (Some(0), Some(1), 2));
     let (trace, device) = run.close();
-    assert!(rt; trace.len() > 0);
-    assert_eq!(rt; device.blocks(), 3);
+    assert!(rt; first && second && third && fourth && trace.len() > 0 && device.blocks() == 3);
     Ok(())
 }

@@ -13,8 +13,8 @@ use machine::config::Config;
 use scripts::{Mode, Script, read};
 use std::alloc::Global;
 use std::marker::Brand;
+use std::process::Abort;
 use std::sync::Wait;
-use std::test::Fail;
 use std::thread;
 use std::thread::Threads;
 
@@ -70,19 +70,19 @@ fn work<L: Opened + Send + Sync, R: Threads + Wait + Sync>(
     when: When,
     before: Vec<(Actor, Command)>,
     behind: Vec<(Actor, Command)>,
-) -> Result<(String, Vec<Pass<L>>), Fail> {
-    let mut shell = live.pass(rt, roll)?;
-    let daemon = live.pass(rt, roll)?;
+) -> Option<(String, Vec<Pass<L>>)> {
+    let mut shell = live.pass(rt, roll).ok()?;
+    let daemon = live.pass(rt, roll).ok()?;
     in_turn(rt, alloc, live, &mut shell, before)?;
     let (daemon, is_told) = run_daemon(rt, live, signals, when, daemon);
     if !is_told {
-        return Err("no write".into());
+        return None;
     }
     let answers = in_turn(rt, alloc, live, &mut shell, behind)?;
     let mut passes = Vec::new(alloc);
-    passes.push(shell)?;
-    passes.push(daemon)?;
-    Ok((answers, passes))
+    passes.push(shell).ok()?;
+    passes.push(daemon).ok()?;
+    Some((answers, passes))
 }
 
 fn run_over<L: Opened + Send + Sync, R: Threads + Wait + Sync>(
@@ -94,21 +94,21 @@ fn run_over<L: Opened + Send + Sync, R: Threads + Wait + Sync>(
     when: When,
     before: Vec<(Actor, Command)>,
     behind: Vec<(Actor, Command)>,
-) -> Result<String, Fail>
+) -> Option<String>
     requires named { unnamed ≡ L.table }
     requires opened { opening_of config ≡ L.opening }
     requires fits { blocks_in L.opening ≤ gate.count }
 {
-    let signals = gate.signals()?;
+    let signals = gate.signals().ok()?;
     let Ok((live, mut roll)) = Live::<L, Gate>::open(alloc, config, gate, unnamed) else {
-        return Err("no machine".into());
+        return None;
     };
     match work(rt, alloc, &live, &mut roll, &signals, when, before, behind) {
-        Err(fail) => {
+        None => {
             live.give_up(roll);
-            Err(fail)
+            None
         }
-        Ok((answers, passes)) => {
+        Some((answers, passes)) => {
             let (_given, report) = finish(live, passes, roll)?;
             let Report {
                 trace: _,
@@ -117,11 +117,7 @@ fn run_over<L: Opened + Send + Sync, R: Threads + Wait + Sync>(
                 passes: _,
                 device: _,
             } = report;
-            if replies_match && audit.is_ok() {
-                Ok(answers)
-            } else {
-                Err("no honest run".into())
-            }
+            (replies_match && audit.is_ok()).then_some(answers)
         }
     }
 }
@@ -133,40 +129,45 @@ fn stopped<R: Threads + Wait + Sync>(
     manner: Manner,
     when: When,
     behind: &str,
-) -> Result<String, Fail> {
+) -> Option<String> {
     let Ok(script) = read(alloc, USED.as_bytes(), Mode::Run) else {
-        return Err("a faulty line".into());
+        return None;
     };
     let Script { config, setup, .. } = script;
     let Some(blocks) = blocks_for(&config) else {
-        return Err("too large".into());
+        return None;
     };
-    let gate = Gate::new(alloc, blocks, manner)?;
+    let gate = Gate::new(alloc, blocks, manner).ok()?;
     let behind = asked(alloc, behind)?;
-    let unnamed = Unnamed::new(alloc)?;
+    let unnamed = Unnamed::new(alloc).ok()?;
     run_over::<Brand, R>(rt, alloc, config, gate, unnamed, when, setup, behind)
 }
 
-const LOOKS: &str = "cat /a memory.current\n1 read 0 0\n";
-
-#[test]
-fn the_daemon_runs_once_where_it_is_told_before(rt: HostRuntime) -> Result<(), Fail> {
-    let answers = stopped(&rt, rt.alloc(), Manner::Plain, When::Before, LOOKS)?;
-    assert_eq!(rt; answers.as_str(), "4096\n1 1\n");
-    Ok(())
+/// The daemon runs until it is stopped. The lines after that are answered so.
+fn leaves<R: Abort + AllocGlobal + Threads + Wait + Sync>(
+    rt: &R,
+    manner: Manner,
+    when: When,
+    answers: &str,
+) {
+    let behind = "cat /a memory.current\n1 read 0 0\n";
+    let Some(found) = stopped(rt, rt.alloc(), manner, when, behind) else {
+        panic!(rt; "no run")
+    };
+    assert_eq!(rt; found.as_str(), answers);
 }
 
 #[test]
-fn the_daemon_ends_its_work_where_it_is_told_meanwhile(rt: HostRuntime) -> Result<(), Fail> {
-    let manner = Manner::HoldsUntilLetGo;
-    let answers = stopped(&rt, rt.alloc(), manner, When::During, LOOKS)?;
-    assert_eq!(rt; answers.as_str(), "4096\n1 1\n");
-    Ok(())
+fn the_daemon_runs_once_where_it_is_told_before(rt: HostRuntime) {
+    leaves(&rt, Manner::Plain, When::Before, "4096\n1 1\n");
 }
 
 #[test]
-fn the_daemon_ends_its_run_where_a_write_fails(rt: HostRuntime) -> Result<(), Fail> {
-    let answers = stopped(&rt, rt.alloc(), Manner::FailsAll, When::Before, LOOKS)?;
-    assert_eq!(rt; answers.as_str(), "12288\n1 1\n");
-    Ok(())
+fn the_daemon_ends_its_work_where_it_is_told_meanwhile(rt: HostRuntime) {
+    leaves(&rt, Manner::HoldsUntilLetGo, When::During, "4096\n1 1\n");
+}
+
+#[test]
+fn the_daemon_ends_its_run_where_a_write_fails(rt: HostRuntime) {
+    leaves(&rt, Manner::FailsAll, When::Before, "12288\n1 1\n");
 }

@@ -14,8 +14,11 @@ fn a_page_is_mapped_and_unmapped(rt: HostRuntime) -> Result<(), Fail> {
     spaces.map(task, 3, page);
     assert_eq!(rt; spaces.page(task, 3), Some(page));
     assert_eq!(rt; (spaces.size(task), spaces.mappers(page)), (1, 1));
-    assert_eq!(rt; spaces.unmap(task, 3), Some(page));
-    assert_eq!(rt; (spaces.size(task), spaces.mappers(page)), (0, 0));
+    let unmapped = spaces.unmap(task, 3);
+    assert_eq!(rt;
+        (unmapped, spaces.size(task), spaces.mappers(page)),
+        (Some(page), 0, 0)
+    );
     spaces.exit(task, Life::Exited);
     Ok(())
 }
@@ -37,36 +40,29 @@ fn a_child_shows_its_parents_pages_and_a_task_changes_its_group(
     spaces.map(parent, 1023, last);
     assert!(rt; spaces.number_refusal(child).is_none());
     spaces.fork(parent, child)?;
-    assert_eq!(rt;
-        (spaces.page(child, 0), spaces.page(child, 1023)),
-        (Some(first), Some(last))
-    );
-    assert_eq!(rt;
-        (
-            spaces.page(child, 1),
-            spaces.size(child),
-            spaces.size(parent)
-        ),
-        (None, 2, 2)
-    );
-    assert_eq!(rt; (spaces.mappers(first), spaces.mappers(last)), (2, 2));
-    let forked = Task {
+    let pages = [
+        spaces.page(child, 0),
+        spaces.page(child, 1),
+        spaces.page(child, 1023),
+    ];
+    let sizes = [spaces.size(child), spaces.size(parent)];
+    let mappers = [spaces.mappers(first), spaces.mappers(last)];
+    let before = [spaces.task(child), spaces.task(parent)];
+    spaces.attach(child, other);
+    let after = [spaces.task(child), spaces.task(parent)];
+    let forked = Some(Task {
         group: home,
         life: Life::Live,
-    };
-    assert_eq!(rt;
-        (spaces.task(child), spaces.task(parent)),
-        (Some(forked), Some(forked))
-    );
-    spaces.attach(child, other);
-    let moved = Task {
+    });
+    let moved = Some(Task {
         group: other,
         life: Life::Live,
-    };
+    });
     assert_eq!(rt;
-        (spaces.task(child), spaces.task(parent)),
-        (Some(moved), Some(forked))
+        (pages, sizes, mappers),
+        ([Some(first), None, Some(last)], [2, 2], [2, 2])
     );
+    assert_eq!(rt; (before, after), ([forked, forked], [moved, forked]));
     assert_eq!(rt;
         (spaces.page(child, 0), spaces.size(child)),
         (Some(first), 2)
@@ -81,24 +77,16 @@ fn a_group_has_tasks_until_the_last_one_moves_or_ends(rt: HostRuntime) -> Result
     assert!(rt; spaces.number_refusal(task).is_none());
     spaces.reserve_group()?;
     spaces.add_group();
-    assert_eq!(rt;
-        (spaces.has_tasks(group), spaces.has_tasks(GroupId(2))),
-        (false, false)
-    );
+    let before = [spaces.has_tasks(group), spaces.has_tasks(GroupId(2))];
     spaces.spawn(task, group)?;
-    assert_eq!(rt;
-        (spaces.has_tasks(group), spaces.has_tasks(GroupId::ROOT)),
-        (true, false)
-    );
+    let spawned = [spaces.has_tasks(group), spaces.has_tasks(GroupId::ROOT)];
     spaces.attach(task, GroupId::ROOT);
-    assert_eq!(rt;
-        (spaces.has_tasks(group), spaces.has_tasks(GroupId::ROOT)),
-        (false, true)
-    );
+    let moved = [spaces.has_tasks(group), spaces.has_tasks(GroupId::ROOT)];
     spaces.exit(task, Life::Exited);
+    let ended = [spaces.has_tasks(group), spaces.has_tasks(GroupId::ROOT)];
     assert_eq!(rt;
-        (spaces.has_tasks(group), spaces.has_tasks(GroupId::ROOT)),
-        (false, false)
+        [before, spawned, moved, ended],
+        [[false, false], [true, false], [false, true], [false, false]]
     );
     Ok(())
 }

@@ -5,9 +5,18 @@ use text_forms::number::number_of;
 
 #[test]
 fn a_number_is_digits_alone_and_a_path_names_behind_slashes(rt: HostRuntime) {
-    assert!(rt; is_path("/") && is_path("/a/b"));
-    assert!(rt; !is_path("a/b") && !is_path("/a//b") && !is_path("/a/.."));
-    assert_eq!(rt; number_of("007"), Some(7));
-    assert_eq!(rt; number_of("+7"), None);
-    assert_eq!(rt; number_of("4294967296"), None);
+    assert_eq!(rt;
+        [
+            is_path("/"),
+            is_path("/a/b"),
+            is_path("a/b"),
+            is_path("/a//b"),
+            is_path("/a/.."),
+        ],
+        [true, true, false, false, false]
+    );
+    assert_eq!(rt;
+        [number_of("007"), number_of("+7"), number_of("4294967296")],
+        [Some(7), None, None]
+    );
 }

@@ -31,23 +31,31 @@ fn the_marked_page_of_the_group_is_promoted(rt: HostRuntime) -> Result<(), Fail>
     marks.set(PageId(2));
     marks.set(PageId(5));
     age(&mut gens, &mut marks, GroupId(0));
-    assert_eq!(rt; gens.max_seq(GroupId(0)), 4);
-    assert_eq!(rt; gens.min_seq(GroupId(0), Kind::Anon), 1);
-    assert!(rt; gens.front(GroupId(0), Kind::Anon) == Some(PageId(1)));
-    assert!(rt; gens.after(GroupId(0), Kind::Anon, PageId(1)) == Some(PageId(3)));
-    assert!(rt; gens.after(GroupId(0), Kind::Anon, PageId(3)) == Some(PageId(2)));
-    assert!(rt; !marks.is_marked(PageId(2)));
-    assert!(rt; marks.is_marked(PageId(5)));
+    let seqs = (
+        gens.max_seq(GroupId(0)),
+        gens.min_seq(GroupId(0), Kind::Anon),
+    );
+    let pages = [
+        gens.front(GroupId(0), Kind::Anon),
+        gens.after(GroupId(0), Kind::Anon, PageId(1)),
+        gens.after(GroupId(0), Kind::Anon, PageId(3)),
+    ];
+    let marked = [marks.is_marked(PageId(2)), marks.is_marked(PageId(5))];
+    assert_eq!(rt; (seqs, marked), ((4, 1), [false, true]));
+    assert!(rt; pages == [Some(PageId(1)), Some(PageId(3)), Some(PageId(2))]);
     Ok(())
 }
 
 #[test]
 fn a_mark_is_set_and_cleared(rt: HostRuntime) -> Result<(), Fail> {
     let mut marks = MarkSet::open(rt.alloc(), 3)?;
-    assert!(rt; !marks.is_marked(PageId(1)));
+    let before = marks.is_marked(PageId(1));
     marks.set(PageId(1));
-    assert!(rt; marks.is_marked(PageId(1)) && !marks.is_marked(PageId(2)));
+    let set = [marks.is_marked(PageId(1)), marks.is_marked(PageId(2))];
     marks.clear(PageId(1));
-    assert!(rt; !marks.is_marked(PageId(1)));
+    assert_eq!(rt;
+        (before, set, marks.is_marked(PageId(1))),
+        (false, [true, false], false)
+    );
     Ok(())
 }

@@ -3,7 +3,7 @@
 ghost use Rattle.std.specs.Prelude.{◌≡◌, ◌≢◌, ℕ, ◌+◌, ◌<◌, length, IfSome, OnSome, IfNone};
 ghost use Rattle.block_store.specs.Device.{bytes_on};
 
-use block_store::{BLOCK_BYTES, BlockDevice, Fault, MemDevice, Slots};
+use block_store::{BLOCK_BYTES, BlockDevice, MemDevice, Slots};
 use std::test::Fail;
 
 /// What a block holds after it was written, if both calls are good.
@@ -35,31 +35,46 @@ fn a_written_block_is_read(rt: HostRuntime) -> Result<(), Fail> {
     let mut device = MemDevice::new(rt.alloc(), 2, &[], &[])?;
     let mut bytes = [0; BLOCK_BYTES];
     bytes[4095] = 7;
-    assert_eq!(rt; device.blocks(), 2);
-    assert!(rt; written_and_read(&mut device, 1, &bytes) == Some(bytes));
-    assert!(rt; written_and_read(&mut device, 0, &[1; BLOCK_BYTES]) == Some([1; BLOCK_BYTES]));
+    assert_eq!(rt; (device.blocks(), device.fault_limit()), (2, 0));
+    let second = written_and_read(&mut device, 1, &bytes);
+    let first = written_and_read(&mut device, 0, &[1; BLOCK_BYTES]);
+    assert!(rt; second == Some(bytes) && first == Some([1; BLOCK_BYTES]));
     let mut found = [9; BLOCK_BYTES];
-    assert_eq!(rt; device.read(1, &mut found), Ok(()));
-    assert!(rt; found == bytes);
+    assert!(rt; device.read(1, &mut found).is_ok() && found == bytes);
     assert_eq!(rt; device.failures(), 0);
-    assert_eq!(rt; device.fault_limit(), 0);
     Ok(())
+}
+
+/// The byte that all of a block's bytes have, if it can be read.
+fn read(device: &mut MemDevice, block: u32) -> Option<u8> {
+    let mut found = [9; BLOCK_BYTES];
+    if block >= device.blocks() || device.read(block, &mut found).is_err() {
+        return None;
+    }
+    let byte = found[0];
+    (found == [byte; BLOCK_BYTES]).then_some(byte)
+}
+
+/// Writes this byte to all of a block's bytes. Returns it, if the call is good.
+fn write(device: &mut MemDevice, block: u32, byte: u8) -> Option<u8> {
+    if block >= device.blocks() || device.write(block, &[byte; BLOCK_BYTES]).is_err() {
+        return None;
+    }
+    Some(byte)
 }
 
 #[test]
 fn the_listed_calls_fail(rt: HostRuntime) -> Result<(), Fail> {
     let mut device = MemDevice::new(rt.alloc(), 1, &[2, 2], &[1])?;
-    let mut found = [9; BLOCK_BYTES];
-    assert_eq!(rt; device.fault_limit(), 3);
-    assert_eq!(rt; device.read(0, &mut found), Ok(()));
-    assert!(rt; found == [0; BLOCK_BYTES]);
-    assert_eq!(rt; device.write(0, &[5; BLOCK_BYTES]), Err(Fault));
-    assert_eq!(rt; device.read(0, &mut found), Err(Fault));
-    assert_eq!(rt; device.failures(), 2);
-    assert_eq!(rt; device.read(0, &mut found), Ok(()));
-    assert!(rt; found == [255; BLOCK_BYTES]);
-    assert_eq!(rt; device.write(0, &[5; BLOCK_BYTES]), Ok(()));
-    assert_eq!(rt; device.failures(), 2);
+    let found = [
+        read(&mut device, 0),
+        write(&mut device, 0, 5),
+        read(&mut device, 0),
+        read(&mut device, 0),
+        write(&mut device, 0, 5),
+    ];
+    assert_eq!(rt; found, [Some(0), None, None, Some(255), Some(5)]);
+    assert_eq!(rt; (device.fault_limit(), device.failures()), (3, 2));
     Ok(())
 }
 

@@ -41,8 +41,7 @@ fn two_marked_pages_of_the_youngest_generation_take_three_agings(
                 looks: 1
             })
     );
-    assert!(rt; !marks.is_marked(PageId(1)));
-    assert!(rt; !marks.is_marked(PageId(2)));
+    assert!(rt; !marks.is_marked(PageId(1)) && !marks.is_marked(PageId(2)));
     Ok(())
 }
 

@@ -5,7 +5,6 @@ use machine::config::{Config, File, FileList, Placement, Watermarks};
 use machine::page_size::PageSize;
 use machine::text::Text;
 use std::alloc::{AllocError, Global};
-use std::test::Fail;
 
 fn add(alloc: Global, files: &mut FileList, name: &str, pages: u32) -> Result<(), AllocError> {
     let name = Text::new(String::from_str(alloc, name)?);
@@ -37,64 +36,55 @@ fn blocks(swap: u32, files: FileList) -> Option<u32> {
     })
 }
 
-/// How many blocks a machine needs with no swap, and a file of one page with this name.
-fn named(alloc: Global, name: &str) -> Result<Option<u32>, AllocError> {
+/// How many blocks a machine needs with this swap, and files of these names and numbers of pages.
+fn needed(alloc: Global, swap: u32, rows: &[(&str, u32)]) -> Result<Option<u32>, AllocError> {
     let mut files = FileList::new(alloc);
-    add(alloc, &mut files, name, 1)?;
-    Ok(blocks(0, files))
-}
-
-/// The same with two files of these numbers of pages, and with this swap.
-fn sized(alloc: Global, swap: u32, a: u32, b: u32) -> Result<Option<u32>, AllocError> {
-    let mut files = FileList::new(alloc);
-    add(alloc, &mut files, "a", a)?;
-    add(alloc, &mut files, "b", b)?;
+    for (name, pages) in rows {
+        add(alloc, &mut files, name, *pages)?;
+    }
     Ok(blocks(swap, files))
 }
 
+/// The same with this number of files of one page each.
+fn of_many(alloc: Global, count: u32) -> Result<Option<u32>, AllocError> {
+    Ok(blocks(2, many(alloc, count)?))
+}
+
+/// The swap, the files, and how many blocks are needed, if this is possible.
+const LISTS: &[(u32, &[(&str, u32)], Option<u32>)] = &[
+    // Names at their limits.
+    (0, &[("abcdefghijklmnopqrstuvwxyz.-_123", 1)], Some(1)),
+    (0, &[("abcdefghijklmnopqrstuvwxyz.-_1234", 1)], None),
+    (0, &[("", 1)], None),
+    (0, &[("a/b", 1)], None),
+    (0, &[("..", 1)], None),
+    (0, &[("...", 1)], Some(1)),
+    // No two files have one name.
+    (0, &[("f0", 1), ("f1", 1), ("f2", 1), ("f", 1)], Some(4)),
+    (0, &[("f0", 1), ("f1", 1), ("f2", 1), ("f1", 1)], None),
+    // At most 131,072 blocks, of which 65,536 are of swap, and no empty file.
+    (65_536, &[("a", 65_535), ("b", 1)], Some(131_072)),
+    (65_536, &[("a", 65_535), ("b", 2)], None),
+    (0, &[("a", 131_071), ("b", 1)], Some(131_072)),
+    (1, &[("a", 131_071), ("b", 1)], None),
+    (1, &[("a", 4_294_967_295), ("b", 1)], None),
+    (1, &[("a", 1), ("b", 4_294_967_295)], None),
+    (1, &[("a", 1), ("b", 0)], None),
+    (65_537, &[("a", 1), ("b", 1)], None),
+];
+
 #[test]
-fn at_most_64_files(rt: HostRuntime) -> Result<(), Fail> {
-    let alloc = rt.alloc();
-    assert_eq!(rt; blocks(2, many(alloc, 0)?), Some(2));
-    assert_eq!(rt; blocks(2, many(alloc, 64)?), Some(66));
-    assert_eq!(rt; blocks(2, many(alloc, 65)?), None);
-    Ok(())
+fn names_and_sizes_at_their_limits(rt: HostRuntime) {
+    for (at, (swap, files, wanted)) in LISTS.iter().enumerate() {
+        assert_eq!(rt; needed(rt.alloc(), *swap, files), Ok(*wanted), "list {at}");
+    }
 }
 
 #[test]
-fn names_at_their_limits(rt: HostRuntime) -> Result<(), Fail> {
+fn at_most_64_files(rt: HostRuntime) {
     let alloc = rt.alloc();
-    assert_eq!(rt; named(alloc, "abcdefghijklmnopqrstuvwxyz.-_123")?, Some(1));
-    assert_eq!(rt; named(alloc, "abcdefghijklmnopqrstuvwxyz.-_1234")?, None);
-    assert_eq!(rt; named(alloc, "")?, None);
-    assert_eq!(rt; named(alloc, "a/b")?, None);
-    assert_eq!(rt; named(alloc, "..")?, None);
-    assert_eq!(rt; named(alloc, "...")?, Some(1));
-    Ok(())
-}
-
-#[test]
-fn no_two_files_of_one_name(rt: HostRuntime) -> Result<(), Fail> {
-    let alloc = rt.alloc();
-    let mut files = many(alloc, 3)?;
-    add(alloc, &mut files, "f", 1)?;
-    assert_eq!(rt; blocks(0, files), Some(4));
-    let mut files = many(alloc, 3)?;
-    add(alloc, &mut files, "f1", 1)?;
-    assert_eq!(rt; blocks(0, files), None);
-    Ok(())
-}
-
-#[test]
-fn at_most_131072_blocks(rt: HostRuntime) -> Result<(), Fail> {
-    let alloc = rt.alloc();
-    assert_eq!(rt; sized(alloc, 65_536, 65_535, 1)?, Some(131_072));
-    assert_eq!(rt; sized(alloc, 65_536, 65_535, 2)?, None);
-    assert_eq!(rt; sized(alloc, 0, 131_071, 1)?, Some(131_072));
-    assert_eq!(rt; sized(alloc, 1, 131_071, 1)?, None);
-    assert_eq!(rt; sized(alloc, 1, 4_294_967_295, 1)?, None);
-    assert_eq!(rt; sized(alloc, 1, 1, 4_294_967_295)?, None);
-    assert_eq!(rt; sized(alloc, 1, 1, 0)?, None);
-    assert_eq!(rt; sized(alloc, 65_537, 1, 1)?, None);
-    Ok(())
+    assert_eq!(rt;
+        [of_many(alloc, 0), of_many(alloc, 64), of_many(alloc, 65)],
+        [Ok(Some(2)), Ok(Some(66)), Ok(None)]
+    );
 }

@@ -6,7 +6,6 @@ use lru_gen::{Gens, ListId, RingNode, list_of};
 use machine::id::{GroupId, PageId};
 use machine::record::Kind;
 use std::alloc::{AllocError, Global};
-use std::process::Abort;
 use std::test::Fail;
 
 // The example of the README.
@@ -31,70 +30,132 @@ fn the_merged_pages_come_first(rt: HostRuntime) -> Result<(), Fail> {
     Ok(())
 }
 
-// A file page of a group may always be reclaimed, and an anonymous one if a swap block is free.
-#[test]
-fn anonymous_pages_are_usable_with_a_swap_block(rt: HostRuntime) -> Result<(), Fail> {
-    let mut gens = Gens::open(rt.alloc(), 16)?;
-    gens.reserve_group()?;
-    gens.add_group_reserved();
-    let root = GroupId::ROOT;
-    assert!(rt; !has_usable(&gens, root, true));
-    add(&mut gens, root, PageId(7), Kind::Anon, 3);
-    assert!(rt; has_usable(&gens, root, true));
-    assert!(rt; !has_usable(&gens, root, false));
-    add(&mut gens, root, PageId(4), Kind::File, 1);
-    assert!(rt; has_usable(&gens, root, false));
-    Ok(())
+/// A call, or what is seen after the calls before it.
+#[derive(Clone, Copy)]
+enum Step {
+    /// A page enters this generation.
+    Add(GroupId, PageId, u64),
+    Isolate(PageId),
+    Merge(GroupId),
+    /// The pages of one group move to another.
+    Move(GroupId, GroupId),
+    RaiseMin(GroupId),
+    Advance(GroupId),
+    /// Whether pages of the type may be reclaimed. The group has no page of the other type.
+    Usable(GroupId, bool),
+    /// Whether a page may be reclaimed if no swap block is free.
+    WithoutSwap(GroupId, bool),
+    Youngest(GroupId, u64),
 }
 
-// Each call that gives a type its first page or takes its last one, and those that do neither.
-#[test]
-fn a_type_is_usable_while_it_has_a_page(rt: HostRuntime) -> Result<(), Fail> {
-    let mut gens = Gens::open(rt.alloc(), 16)?;
-    for _ in 0..2 {
+const ROOT: GroupId = GroupId::ROOT;
+
+const CHILD: GroupId = GroupId(1);
+
+/// Each call that gives a type its first page or takes its last one, and those that do neither.
+const STEPS: [Step; 36] = [
+    Step::Usable(ROOT, false),
+    // Two pages on one list, and then on two.
+    Step::Add(ROOT, PageId(7), 0),
+    Step::Add(ROOT, PageId(4), 0),
+    Step::Isolate(PageId(7)),
+    Step::Usable(ROOT, true),
+    Step::Isolate(PageId(4)),
+    Step::Usable(ROOT, false),
+    Step::Add(ROOT, PageId(7), 0),
+    Step::Add(ROOT, PageId(4), 3),
+    Step::Isolate(PageId(7)),
+    Step::Usable(ROOT, true),
+    Step::Isolate(PageId(4)),
+    Step::Usable(ROOT, false),
+    Step::Add(ROOT, PageId(7), 0),
+    Step::Merge(ROOT),
+    Step::Usable(ROOT, true),
+    Step::Isolate(PageId(7)),
+    Step::Usable(ROOT, false),
+    // The pages move from one group to the other and back. A group without pages takes none away from one that has some.
+    Step::Add(ROOT, PageId(7), 3),
+    Step::Move(ROOT, CHILD),
+    Step::Usable(ROOT, false),
+    Step::Usable(CHILD, true),
+    Step::Move(ROOT, CHILD),
+    Step::Usable(ROOT, false),
+    Step::Usable(CHILD, true),
+    Step::Move(CHILD, ROOT),
+    Step::Usable(CHILD, false),
+    Step::Usable(ROOT, true),
+    Step::Add(CHILD, PageId(4), 3),
+    Step::Move(ROOT, CHILD),
+    Step::Isolate(PageId(4)),
+    Step::Usable(CHILD, true),
+    Step::Isolate(PageId(7)),
+    Step::Usable(CHILD, false),
+    Step::RaiseMin(ROOT),
+    Step::Usable(ROOT, false),
+];
+
+/// The same for files and then for anonymous pages. An anonymous page alone is usable only if a swap block is free, and
+/// one of a file always.
+const RUNS: [(Kind, &[Step]); 4] = [
+    (Kind::File, &STEPS),
+    (Kind::Anon, &STEPS),
+    (
+        Kind::Anon,
+        &[
+            Step::Add(ROOT, PageId(7), 3),
+            Step::Advance(ROOT),
+            Step::Youngest(ROOT, 4),
+            Step::Usable(ROOT, true),
+            Step::WithoutSwap(ROOT, false),
+        ],
+    ),
+    (
+        Kind::File,
+        &[
+            Step::Usable(ROOT, false),
+            Step::Add(ROOT, PageId(4), 3),
+            Step::WithoutSwap(ROOT, true),
+        ],
+    ),
+];
+
+/// Makes the call, or looks. Returns whether it could be made, or what was seen was right.
+fn is_right(gens: &mut Gens, kind: Kind, step: Step) -> bool {
+    match step {
+        Step::Add(group, page, seq) => add(gens, group, page, kind, seq),
+        Step::Isolate(page) => {
+            isolate(gens, page);
+            true
+        }
+        Step::Merge(group) => merge_oldest(gens, group, kind),
+        Step::Move(from, to) => take_over(gens, from, to).is_some(),
+        Step::RaiseMin(group) => raise_min(gens, group, kind),
+        Step::Advance(group) => advance(gens, group),
+        Step::Usable(group, wanted) => has_usable(gens, group, kind == Kind::Anon) == wanted,
+        Step::WithoutSwap(group, wanted) => has_usable(gens, group, false) == wanted,
+        Step::Youngest(group, wanted) => max_seq(gens, group) == wanted,
+    }
+}
+
+/// New lists, of this number of groups.
+fn opened(alloc: Global, groups: u32, pages: usize) -> Result<Gens, AllocError> {
+    let mut gens = Gens::open(alloc, pages)?;
+    for _ in 0..groups {
         gens.reserve_group()?;
         gens.add_group_reserved();
     }
-    let root = GroupId::ROOT;
-    let child = GroupId(1);
-    for kind in [Kind::File, Kind::Anon] {
-        assert!(rt; !is_usable(&gens, root, kind));
-        // Two pages on one list, and then on two.
-        for second in [0, 3] {
-            add(&mut gens, root, PageId(7), kind, 0);
-            add(&mut gens, root, PageId(4), kind, second);
-            isolate(&mut gens, PageId(7));
-            assert!(rt; is_usable(&gens, root, kind));
-            isolate(&mut gens, PageId(4));
-            assert!(rt; !is_usable(&gens, root, kind));
+    Ok(gens)
+}
+
+#[test]
+fn a_type_is_usable_while_it_has_a_page(rt: HostRuntime) -> Result<(), Fail> {
+    let mut gens = opened(rt.alloc(), 2, 16)?;
+    for (run, (kind, steps)) in RUNS.iter().enumerate() {
+        for (at, step) in steps.iter().enumerate() {
+            let right = is_right(&mut gens, *kind, *step);
+            assert!(rt; right, "step {at} of run {run}");
         }
-        add(&mut gens, root, PageId(7), kind, 0);
-        merge_oldest(&mut gens, root, kind);
-        assert!(rt; is_usable(&gens, root, kind));
-        isolate(&mut gens, PageId(7));
-        assert!(rt; !is_usable(&gens, root, kind));
-        add(&mut gens, root, PageId(7), kind, 3);
-        // The pages move from one group to the other and back. A group without pages takes none away from one that has
-        // some.
-        for (from, to) in [(root, child), (root, child), (child, root)] {
-            take_over(&mut gens, from, to);
-            assert!(rt; !is_usable(&gens, from, kind));
-            assert!(rt; is_usable(&gens, to, kind));
-        }
-        add(&mut gens, child, PageId(4), kind, 3);
-        take_over(&mut gens, root, child);
-        isolate(&mut gens, PageId(4));
-        assert!(rt; is_usable(&gens, child, kind));
-        isolate(&mut gens, PageId(7));
-        assert!(rt; !is_usable(&gens, child, kind));
-        raise_min(&mut gens, root, kind);
-        assert!(rt; !is_usable(&gens, root, kind));
     }
-    add(&mut gens, root, PageId(7), Kind::Anon, 3);
-    advance(&mut gens, root);
-    assert_eq!(rt; max_seq(&gens, root), 4);
-    assert!(rt; is_usable(&gens, root, Kind::Anon));
-    assert!(rt; !is_usable(&gens, root, Kind::File));
     Ok(())
 }
 
@@ -108,6 +169,9 @@ const SEQS: u64 = 200;
 // How many calls the next test makes.
 const CALLS: usize = 10_000;
 
+// How many kinds of calls the next test makes.
+const KINDS: usize = 6;
+
 // What a call of the next test is.
 #[derive(Clone, Copy)]
 enum Call {
@@ -119,50 +183,59 @@ enum Call {
     TakeOver,
 }
 
-// After each call the pages are the same as in plain vectors after the same calls. There is a vector for each
-// generation that ever was. The pages are read by `first` and `after`, and along the stored links of each list both
-// ways.
-#[test]
-fn mixed_calls_match_plain_vectors(rt: HostRuntime) -> Result<(), Fail> {
-    let mut gens = Gens::open(rt.alloc(), PAGES)?;
-    let mut plain = Plain {
-        lists: Vec::new(rt.alloc()),
-    };
-    for _ in 0..GROUPS {
-        gens.reserve_group()?;
-        gens.add_group_reserved();
-        for _ in 0..2 * SEQS {
-            plain.lists.push(Vec::new(rt.alloc()))?;
-        }
+// Empty vectors.
+fn empty(alloc: Global) -> Result<Plain, AllocError> {
+    let mut lists = Vec::new(alloc);
+    for _ in 0..2 * SEQS * GROUPS as u64 {
+        lists.push(Vec::new(alloc))?;
     }
-    let mut made: Vec<Call> = Vec::new(rt.alloc());
+    Ok(Plain { lists })
+}
+
+// Makes calls on both, and compares them after each until they differ. Returns how many calls of each kind it made, and
+// whether they were the same to the end.
+fn calls_of(
+    alloc: Global,
+    gens: &mut Gens,
+    plain: &mut Plain,
+) -> Result<([usize; KINDS], bool), AllocError> {
+    let mut made = [0usize; KINDS];
+    let mut calls = 0usize;
     let mut seed: u64 = 1;
     for _ in 0..5 * CALLS {
-        if made.len() == CALLS {
+        if calls == CALLS {
             break;
         }
         seed = seed
             .wrapping_mul(6364136223846793005)
             .wrapping_add(1442695040888963407);
-        if let Some(call) = call_both(rt.alloc(), &mut gens, &mut plain, seed)? {
-            made.push(call)?;
-            rows_match(&rt, rt.alloc(), &gens, &plain)?;
-            links_match(&rt, rt.alloc(), &gens, &plain)?;
+        if let Some(call) = call_both(alloc, gens, plain, seed)? {
+            calls = calls.wrapping_add(1);
+            if let Some(count) = made.get_mut(call as usize) {
+                *count = count.wrapping_add(1);
+            }
+            if !all_match(alloc, gens, plain)? {
+                return Ok((made, false));
+            }
         }
     }
-    assert_eq!(rt; made.len(), CALLS);
-    for call in [
-        Call::Add,
-        Call::Isolate,
-        Call::MergeOldest,
-        Call::RaiseMin,
-        Call::Advance,
-        Call::TakeOver,
-    ] {
-        assert!(rt; made.iter().filter(|other| **other == call).count() > 100);
-    }
+    Ok((made, true))
+}
+
+// After each call the pages are the same as in plain vectors after the same calls. There is a vector for each
+// generation that ever was. The pages are read by `first` and `after`, and along the stored links of each list both
+// ways.
+#[test]
+fn mixed_calls_match_plain_vectors(rt: HostRuntime) {
+    let mut gens = opened(rt.alloc(), GROUPS, PAGES).expect(&rt, "no memory");
+    let mut plain = empty(rt.alloc()).expect(&rt, "no memory");
+    let (made, same) = calls_of(rt.alloc(), &mut gens, &mut plain).expect(&rt, "no memory");
+    let all = made
+        .iter()
+        .fold(0usize, |all, count| all.wrapping_add(*count));
+    assert_eq!(rt; (all, same), (CALLS, true));
+    assert!(rt; made.iter().all(|count| *count > 100));
     assert!(rt; min_seq(&gens, GroupId(0), Kind::File) > 10);
-    Ok(())
 }
 
 // The call that these bits name, made on both if it may be made.
@@ -213,53 +286,67 @@ fn call_both(
     }
 }
 
-// Each type of each group has the pages of the plain vectors, and is usable if they have one.
-fn rows_match(
-    rt: &impl Abort,
+// Whether each type of each group has the pages of the plain vectors, and is usable if they have one.
+fn all_match(alloc: Global, gens: &Gens, plain: &Plain) -> Result<bool, AllocError> {
+    for group in 0..GROUPS {
+        if !group_matches(alloc, gens, plain, GroupId(group))? {
+            return Ok(false);
+        }
+    }
+    Ok(true)
+}
+
+fn group_matches(
     alloc: Global,
     gens: &Gens,
     plain: &Plain,
-) -> Result<(), AllocError> {
-    for group in 0..GROUPS {
-        let group = GroupId(group);
-        for kind in [Kind::Anon, Kind::File] {
-            assert_eq!(rt;
-                walk(alloc, gens, group, kind)?.as_slice(),
-                plain
-                    .row(alloc, group, kind, min_seq(gens, group, kind), 4)?
-                    .as_slice()
-            );
-        }
-        let files = plain.has_page(alloc, gens, group, Kind::File)?;
-        let anon = plain.has_page(alloc, gens, group, Kind::Anon)?;
-        assert_eq!(rt; has_usable(gens, group, false), files);
-        assert_eq!(rt; has_usable(gens, group, true), files || anon);
-    }
-    Ok(())
+    group: GroupId,
+) -> Result<bool, AllocError> {
+    let files = plain.has_page(alloc, gens, group, Kind::File)?;
+    let anon = plain.has_page(alloc, gens, group, Kind::Anon)?;
+    Ok(
+        has_usable(gens, group, false) == files
+            && has_usable(gens, group, true) == (files || anon)
+            && row_matches(alloc, gens, plain, group, Kind::Anon)?
+            && row_matches(alloc, gens, plain, group, Kind::File)?,
+    )
 }
 
-// The stored links form a ring for each list, and name its pages in order both ways.
-fn links_match(rt: &impl Abort, alloc: Global, gens: &Gens, plain: &Plain) -> Result<(), Fail> {
-    for group in 0..GROUPS {
-        let group = GroupId(group);
-        for kind in [Kind::Anon, Kind::File] {
-            let oldest = min_seq(gens, group, kind);
-            for turn in 0..4 {
-                let seq = oldest.wrapping_add(turn);
-                let list = list_of(group, kind, seq);
-                let pages = plain
-                    .lists
-                    .get(place(group, kind, seq))
-                    .ok_or("no such vector")?;
-                let forth = round(alloc, gens, list, Way::Forth)?.ok_or("no ring")?;
-                assert_eq!(rt; forth.as_slice(), pages.as_slice());
-                let mut back = round(alloc, gens, list, Way::Back)?.ok_or("no ring")?;
-                back.reverse();
-                assert_eq!(rt; back.as_slice(), pages.as_slice());
-            }
+fn row_matches(
+    alloc: Global,
+    gens: &Gens,
+    plain: &Plain,
+    group: GroupId,
+    kind: Kind,
+) -> Result<bool, AllocError> {
+    let oldest = min_seq(gens, group, kind);
+    for turn in 0..4 {
+        if !list_matches(alloc, gens, plain, group, kind, oldest.wrapping_add(turn))? {
+            return Ok(false);
         }
     }
-    Ok(())
+    let pages = walk(alloc, gens, group, kind)?;
+    let row = plain.row(alloc, group, kind, oldest, 4)?;
+    Ok(pages.as_slice() == row.as_slice())
+}
+
+// Whether the stored links form a ring for the list, and name its pages in order both ways.
+fn list_matches(
+    alloc: Global,
+    gens: &Gens,
+    plain: &Plain,
+    group: GroupId,
+    kind: Kind,
+    seq: u64,
+) -> Result<bool, AllocError> {
+    if group.0 >= GROUPS {
+        return Ok(false);
+    }
+    let list = list_of(group, kind, seq);
+    let Some(pages) = plain.lists.get(place(group, kind, seq)) else {
+        return Ok(false);
+    };
+    Ok(is_round(gens, list, Way::Forth, pages) && is_round(gens, list, Way::Back, pages))
 }
 
 // Which neighbour of each node comes next in a walk around a list.
@@ -269,30 +356,29 @@ enum Way {
     Back,
 }
 
-// The pages that the stored links name from the head of a list on, if they lead back to it.
-fn round(
-    alloc: Global,
-    gens: &Gens,
-    list: ListId,
-    way: Way,
-) -> Result<Option<Vec<u32>>, AllocError> {
-    let mut pages = Vec::new(alloc);
+// The neighbour of a node.
+fn neighbour(gens: &Gens, node: RingNode, way: Way) -> Option<RingNode> {
+    let link = gens.link(node)?;
+    Some(match way {
+        Way::Forth => link.next(),
+        Way::Back => link.prev(),
+    })
+}
+
+// Whether the stored links from the head of a list on name these pages, and lead back to it.
+fn is_round(gens: &Gens, list: ListId, way: Way, pages: &[u32]) -> bool {
     let mut node = RingNode::Head(list);
-    for _ in 0..2 * PAGES {
-        let Some(link) = gens.link(node) else {
-            return Ok(None);
+    for at in 0..pages.len() {
+        let page = match way {
+            Way::Forth => pages[at],
+            Way::Back => pages[pages.len() - 1 - at],
         };
-        node = match way {
-            Way::Forth => link.next(),
-            Way::Back => link.prev(),
-        };
-        match node {
-            RingNode::Page(page) => pages.push(page.0)?,
-            RingNode::Head(end) if end == list => return Ok(Some(pages)),
-            RingNode::Head(_) => return Ok(None),
+        match neighbour(gens, node, way) {
+            Some(RingNode::Page(found)) if found.0 == page => node = RingNode::Page(found),
+            _ => return false,
         }
     }
-    Ok(None)
+    matches!(neighbour(gens, node, way), Some(RingNode::Head(end)) if end == list)
 }
 
 fn kind_of(bits: u64) -> Kind {
@@ -491,11 +577,6 @@ fn advance(gens: &mut Gens, group: GroupId) -> bool {
 
 fn has_usable(gens: &Gens, group: GroupId, swap_free: bool) -> bool {
     has_group(gens, group) && gens.has_usable(group, swap_free)
-}
-
-// For a group that has no page of the other type.
-fn is_usable(gens: &Gens, group: GroupId, kind: Kind) -> bool {
-    has_usable(gens, group, kind == Kind::Anon)
 }
 
 fn min_seq(gens: &Gens, group: GroupId, kind: Kind) -> u64 {

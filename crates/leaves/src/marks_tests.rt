@@ -81,13 +81,8 @@ fn counts_of(marks: &Marks, job: Job) -> Counts
     counts
 }
 
-fn add_job(
-    marks: &Marks,
-    first: &mut Seat,
-    work: Work,
-    rounds: u32,
-    jobs: &mut Vec<Job>,
-) -> Result<(), AllocError>
+/// Adds a job with a seat of its own, if there is memory for it.
+fn add_job(marks: &Marks, first: &mut Seat, work: Work, rounds: u32, jobs: &mut Vec<Job>)
     requires parts { 2 ≤ first.old.log.parts }
     requires of_these { first.old.table ≡ marks.now.table }
     requires jobs { All (λ j. j.seat.table ≡ marks.now.table) jobs.old.items }
@@ -96,8 +91,8 @@ fn add_job(
     ensures jobs { All (λ j. j.seat.table ≡ marks.now.table) jobs.new.items }
 {
     let seat = marks.seat(first);
-    jobs.push(Job { work, rounds, seat })?;
-    Ok(())
+    // If there is no memory for the job, it is missing, which the caller has to notice.
+    let _ = jobs.push(Job { work, rounds, seat });
 }
 
 /// What the threads count of the frame together.
@@ -127,25 +122,30 @@ fn do_all<R: Threads + Sync>(
     )
 }
 
+/// The first frame whose marks by the threads are not those that they took and the one that is left.
+fn lost(counts: &[Counts], words: [u64; 4]) -> Option<usize> {
+    for frame in 0..FRAMES {
+        let left = ((words[frame / 64] >> (frame % 64) as u32) & 1) as u32;
+        if total(counts, frame) != left {
+            return Some(frame);
+        }
+    }
+    None
+}
+
 #[test]
 fn no_mark_is_lost_or_taken_twice(rt: HostRuntime) -> Result<(), Fail> {
     let (marks, mut first) = Marks::open(rt.alloc(), FRAMES as u32)?;
     let mut jobs = Vec::new(rt.alloc());
-    add_job(&marks, &mut first, Work::Set, 1000, &mut jobs)?;
-    add_job(&marks, &mut first, Work::Harvest, 1000, &mut jobs)?;
-    add_job(&marks, &mut first, Work::Set, 1000, &mut jobs)?;
-    add_job(&marks, &mut first, Work::Set, 1000, &mut jobs)?;
-    add_job(&marks, &mut first, Work::Harvest, 1000, &mut jobs)?;
-    add_job(&marks, &mut first, Work::Set, 1000, &mut jobs)?;
+    add_job(&marks, &mut first, Work::Set, 1000, &mut jobs);
+    add_job(&marks, &mut first, Work::Harvest, 1000, &mut jobs);
+    add_job(&marks, &mut first, Work::Set, 1000, &mut jobs);
+    add_job(&marks, &mut first, Work::Set, 1000, &mut jobs);
+    add_job(&marks, &mut first, Work::Harvest, 1000, &mut jobs);
+    add_job(&marks, &mut first, Work::Set, 1000, &mut jobs);
     let counts = do_all(&rt, &marks, jobs)?;
-    let mut words = [0; 4];
-    for word in 0..4u32 {
-        words[word as usize] = marks.load(word);
-    }
-    for frame in 0..FRAMES {
-        let left = ((words[frame / 64] >> (frame % 64) as u32) & 1) as u32;
-        assert_eq!(rt; total(&counts, frame), left);
-    }
+    let words = [marks.load(0), marks.load(1), marks.load(2), marks.load(3)];
+    assert_eq!(rt; (counts.len(), lost(&counts, words)), (6, None));
     Ok(())
 }
 
@@ -164,10 +164,10 @@ fn four_at_once<R: Threads + Sync>(
     ensures of_these { OnOk result (first.new.table ≡ first.old.table) }
 {
     let mut jobs = Vec::new(alloc);
-    add_job(marks, first, work, 1, &mut jobs)?;
-    add_job(marks, first, work, 1, &mut jobs)?;
-    add_job(marks, first, work, 1, &mut jobs)?;
-    add_job(marks, first, work, 1, &mut jobs)?;
+    add_job(marks, first, work, 1, &mut jobs);
+    add_job(marks, first, work, 1, &mut jobs);
+    add_job(marks, first, work, 1, &mut jobs);
+    add_job(marks, first, work, 1, &mut jobs);
     do_all(rt, marks, jobs)
 }
 
@@ -186,22 +186,28 @@ fn mark_and_take<R: Threads + Sync>(
 {
     let set = four_at_once(rt, alloc, marks, first, Work::Set)?;
     let taken = four_at_once(rt, alloc, marks, first, Work::Harvest)?;
-    let mut each_once = true;
+    Ok(set.len() == 4 && taken.len() == 4 && are_each_once(&set, &taken))
+}
+
+fn are_each_once(set: &[Counts], taken: &[Counts]) -> bool {
     for frame in 0..FRAMES {
-        if total(&set, frame) != 1 || total(&taken, frame) != u32::MAX {
-            each_once = false;
+        if total(set, frame) != 1 || total(taken, frame) != u32::MAX {
+            return false;
         }
     }
-    Ok(each_once)
+    true
 }
 
 #[test]
 fn a_frame_is_marked_again_after_each_harvest(rt: HostRuntime) -> Result<(), Fail> {
     let alloc = rt.alloc();
     let (marks, mut first) = Marks::open(alloc, FRAMES as u32)?;
-    assert!(rt; mark_and_take(&rt, alloc, &marks, &mut first)?);
-    assert!(rt; mark_and_take(&rt, alloc, &marks, &mut first)?);
-    assert!(rt; mark_and_take(&rt, alloc, &marks, &mut first)?);
+    let found = [
+        mark_and_take(&rt, alloc, &marks, &mut first)?,
+        mark_and_take(&rt, alloc, &marks, &mut first)?,
+        mark_and_take(&rt, alloc, &marks, &mut first)?,
+    ];
+    assert_eq!(rt; found, [true, true, true]);
     Ok(())
 }
 
@@ -209,20 +215,21 @@ fn a_frame_is_marked_again_after_each_harvest(rt: HostRuntime) -> Result<(), Fai
 fn two_seats_see_one_mark(rt: HostRuntime) -> Result<(), Fail> {
     let (marks, mut first) = Marks::open(rt.alloc(), 130)?;
     let mut second = marks.seat(&mut first);
-    assert_eq!(rt; first.parts(), 4294967295);
-    assert_eq!(rt; second.parts(), 1);
-    assert_eq!(rt; marks.set(&mut first, 129), Found::Clear);
-    assert_eq!(rt; marks.set(&mut second, 129), Found::Marked);
-    assert_eq!(rt; marks.set(&mut second, 3), Found::Clear);
-    assert_eq!(rt; marks.load(0), 8);
-    assert_eq!(rt; marks.harvest(&mut first, 0), 8);
-    assert_eq!(rt; marks.load(0), 0);
+    let parts = (first.parts(), second.parts());
+    let found = [
+        marks.set(&mut first, 129),
+        marks.set(&mut second, 129),
+        marks.set(&mut second, 3),
+    ];
+    let word = [marks.load(0), marks.harvest(&mut first, 0), marks.load(0)];
+    assert_eq!(rt; parts, (4294967295, 1));
+    assert_eq!(rt; found, [Found::Clear, Found::Marked, Found::Clear]);
+    assert_eq!(rt; word, [8, 8, 0]);
     let mut seats = Vec::new(rt.alloc());
     seats.push(first)?;
     seats.push(second)?;
     let words = marks.close(seats);
-    assert_eq!(rt; words.get(0), 0);
-    assert_eq!(rt; words.get(2), 2);
+    assert_eq!(rt; [words.get(0), words.get(2)], [0, 2]);
     Ok(())
 }
 
@@ -245,18 +252,31 @@ fn mark_alone(marks: &Marks, seat: &mut Seat, frame: u32) -> u64
 #[test]
 fn frames_at_the_ends_of_words(rt: HostRuntime) -> Result<(), Fail> {
     let (marks, mut seat) = Marks::open(rt.alloc(), 65537)?;
-    assert_eq!(rt; marks.frames(), 65537);
-    assert_eq!(rt; mark_alone(&marks, &mut seat, 0), 1);
-    assert_eq!(rt; mark_alone(&marks, &mut seat, 63), 1 << 63);
-    assert_eq!(rt; mark_alone(&marks, &mut seat, 64), 1);
-    assert_eq!(rt; mark_alone(&marks, &mut seat, 65536), 1);
-    assert_eq!(rt; marks.set(&mut seat, 63), Found::Clear);
-    assert_eq!(rt; marks.set(&mut seat, 64), Found::Clear);
-    assert_eq!(rt; marks.set(&mut seat, 65536), Found::Clear);
-    assert_eq!(rt; marks.set(&mut seat, 63), Found::Marked);
-    assert_eq!(rt; marks.load(0), 1 << 63);
-    assert_eq!(rt; marks.load(1), 1);
-    assert_eq!(rt; marks.load(2), 0);
-    assert_eq!(rt; marks.load(1024), 1);
+    let alone = [
+        mark_alone(&marks, &mut seat, 0),
+        mark_alone(&marks, &mut seat, 63),
+        mark_alone(&marks, &mut seat, 64),
+        mark_alone(&marks, &mut seat, 65536),
+    ];
+    let found = [
+        marks.set(&mut seat, 63),
+        marks.set(&mut seat, 64),
+        marks.set(&mut seat, 65536),
+        marks.set(&mut seat, 63),
+    ];
+    let words = [
+        marks.load(0),
+        marks.load(1),
+        marks.load(2),
+        marks.load(1024),
+    ];
+    assert_eq!(rt;
+        (marks.frames(), alone, words),
+        (65537, [1, 1 << 63, 1, 1], [1 << 63, 1, 0, 1])
+    );
+    assert_eq!(rt;
+        found,
+        [Found::Clear, Found::Clear, Found::Clear, Found::Marked]
+    );
     Ok(())
 }

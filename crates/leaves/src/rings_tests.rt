@@ -18,11 +18,12 @@ fn the_older_pages_come_first(rt: HostRuntime) -> Result<(), Fail> {
     rings.remove(PageId(3));
     rings.splice_front(old, young);
     assert_eq!(rt; rings.front(young), Some(PageId(1)));
-    assert_eq!(rt; rings.after(PageId(1)), Some(PageId(5)));
-    assert_eq!(rt; rings.after(PageId(5)), None);
-    assert_eq!(rt; rings.before(PageId(5)), Some(PageId(1)));
-    assert!(rt; rings.is_empty(old));
-    assert!(rt; !rings.is_listed(PageId(3)));
+    let after = [rings.after(PageId(1)), rings.after(PageId(5))];
+    assert_eq!(rt;
+        (after, rings.before(PageId(5))),
+        ([Some(PageId(5)), None], Some(PageId(1)))
+    );
+    assert!(rt; rings.is_empty(old) && !rings.is_listed(PageId(3)));
     Ok(())
 }
 
@@ -36,57 +37,95 @@ const LISTS: u32 = 4;
 
 const NUMBERS: u32 = 32;
 
+/// Makes the call that these bits name, on both.
+fn call_both(
+    alloc: Global,
+    rings: &mut Rings,
+    plain: &mut Vec<Vec<u32>>,
+    bits: u64,
+) -> Result<(), AllocError> {
+    let list = ((bits >> 30) % 4) as u32;
+    let target = (list + 1) % LISTS;
+    match bits >> 60 {
+        0 => {
+            splice_front(rings, list, target);
+            splice_plain(alloc, plain, list, target, [list, target])
+        }
+        1 => {
+            splice_back(rings, list, target);
+            splice_plain(alloc, plain, list, target, [target, list])
+        }
+        _ => toggle_both(rings, plain, list, PageId(((bits >> 40) % 32) as u32)),
+    }
+}
+
+/// Removes the page from its list, or adds it at the end of this one if it is on none.
+fn toggle_both(
+    rings: &mut Rings,
+    plain: &mut Vec<Vec<u32>>,
+    list: u32,
+    page: PageId,
+) -> Result<(), AllocError> {
+    if rings.is_listed(page) {
+        rings.remove(page);
+        for pages in plain.iter_mut() {
+            pages.retain(|other| *other != page.0);
+        }
+        return Ok(());
+    }
+    push_back(rings, list, page);
+    if let Some(pages) = plain.get_mut(list as usize) {
+        pages.push(page.0)?;
+    }
+    Ok(())
+}
+
+/// Whether each list has the pages of its vector, from its front on and from its back on.
+fn all_match(rings: &Rings, plain: &[Vec<u32>]) -> bool {
+    for (list, pages) in (0..LISTS).zip(plain.iter()) {
+        if !is_forth(rings, ListId(list), pages) || !is_back(rings, ListId(list), pages) {
+            return false;
+        }
+    }
+    true
+}
+
+/// Makes calls on both, until the lists differ from the vectors. Returns how many calls it made.
+fn calls_of(
+    alloc: Global,
+    rings: &mut Rings,
+    plain: &mut Vec<Vec<u32>>,
+) -> Result<u32, AllocError> {
+    let mut seed: u64 = 1;
+    for call in 0..5_000 {
+        seed = seed
+            .wrapping_mul(6364136223846793005)
+            .wrapping_add(1442695040888963407);
+        call_both(alloc, rings, plain, seed)?;
+        if !all_match(rings, plain) {
+            return Ok(call);
+        }
+    }
+    Ok(5_000)
+}
+
+/// As many empty vectors as there are lists.
+fn empty(alloc: Global) -> Result<Vec<Vec<u32>>, AllocError> {
+    let mut plain = Vec::new(alloc);
+    for _ in 0..LISTS {
+        plain.push(Vec::new(alloc))?;
+    }
+    Ok(plain)
+}
+
 // After each call the lists are as vectors are after the same calls.
 #[test]
 fn mixed_calls_match_plain_vectors(rt: HostRuntime) -> Result<(), Fail> {
     let mut rings = Rings::open(rt.alloc(), NUMBERS)?;
     rings.reserve(LISTS)?;
     rings.add(LISTS);
-    let mut plain: Vec<Vec<u32>> = Vec::new(rt.alloc());
-    for _ in 0..LISTS {
-        plain.push(Vec::new(rt.alloc()))?;
-    }
-    let mut seed: u64 = 1;
-    for _ in 0..5_000 {
-        seed = seed
-            .wrapping_mul(6364136223846793005)
-            .wrapping_add(1442695040888963407);
-        let page = PageId(((seed >> 40) % 32) as u32);
-        let list = ((seed >> 30) % 4) as u32;
-        let target = (list + 1) % LISTS;
-        match seed >> 60 {
-            0 => {
-                splice_front(&mut rings, list, target);
-                splice_plain(rt.alloc(), &mut plain, list, target, [list, target])?;
-            }
-            1 => {
-                splice_back(&mut rings, list, target);
-                splice_plain(rt.alloc(), &mut plain, list, target, [target, list])?;
-            }
-            _ => {
-                if rings.is_listed(page) {
-                    rings.remove(page);
-                    for pages in plain.iter_mut() {
-                        pages.retain(|other| *other != page.0);
-                    }
-                } else {
-                    push_back(&mut rings, list, page);
-                    if let Some(pages) = plain.get_mut(list as usize) {
-                        pages.push(page.0)?;
-                    }
-                }
-            }
-        }
-        for (list, pages) in (0..LISTS).zip(plain.iter()) {
-            assert_eq!(rt;
-                forth(rt.alloc(), &rings, ListId(list))?.as_slice(),
-                pages.as_slice()
-            );
-            let mut back = back(rt.alloc(), &rings, ListId(list))?;
-            back.reverse();
-            assert_eq!(rt; back.as_slice(), pages.as_slice());
-        }
-    }
+    let mut plain = empty(rt.alloc())?;
+    assert_eq!(rt; calls_of(rt.alloc(), &mut rings, &mut plain), Ok(5_000));
     Ok(())
 }
 
@@ -124,38 +163,34 @@ fn before(rings: &Rings, page: PageId) -> Option<PageId> {
     rings.before(page)
 }
 
-// The pages of a list, from its front, and then the page after each.
-fn forth(alloc: Global, rings: &Rings, list: ListId) -> Result<Vec<u32>, AllocError> {
-    let mut pages = Vec::new(alloc);
+// Whether the list has these pages, from its front on.
+fn is_forth(rings: &Rings, list: ListId, pages: &[u32]) -> bool {
     if list.0 >= rings.len() {
-        return Ok(pages);
+        return false;
     }
     let mut next = rings.front(list);
-    for _ in 0..rings.numbers() {
-        let Some(page) = next else {
-            break;
-        };
-        pages.push(page.0)?;
-        next = after(rings, page);
+    for page in pages {
+        match next {
+            Some(found) if found.0 == *page => next = after(rings, found),
+            _ => return false,
+        }
     }
-    Ok(pages)
+    next.is_none()
 }
 
 // The same backwards, from the head's link.
-fn back(alloc: Global, rings: &Rings, list: ListId) -> Result<Vec<u32>, AllocError> {
-    let mut pages = Vec::new(alloc);
+fn is_back(rings: &Rings, list: ListId, pages: &[u32]) -> bool {
     let Some(head) = rings.link(RingNode::Head(list)) else {
-        return Ok(pages);
+        return false;
     };
     let mut prev = head.prev().page();
-    for _ in 0..rings.numbers() {
-        let Some(page) = prev else {
-            break;
-        };
-        pages.push(page.0)?;
-        prev = before(rings, page);
+    for page in pages.iter().rev() {
+        match prev {
+            Some(found) if found.0 == *page => prev = before(rings, found),
+            _ => return false,
+        }
     }
-    Ok(pages)
+    prev.is_none()
 }
 
 // The source's pages move to the target, which then has those of the two lists in this order.

@@ -10,8 +10,8 @@ use scenarios::scenario::read;
 use scenarios::size_faults::SizeFaultText;
 use scenarios::sizes::{Size, read_size};
 use scenarios::unknown::Unknown;
-use std::alloc::Global;
-use std::process::Abort;
+use scenarios::words::Word;
+use std::alloc::{AllocError, Global};
 use std::test::Fail;
 
 /// The line to print for a text's fault, if it has one.
@@ -55,59 +55,76 @@ fn blocks_are_counted(rt: HostRuntime) -> Result<(), Fail> {
     Ok(())
 }
 
+const FAULTS: &[(&[u8], &str)] = &[
+    (
+        b"group /a\ngroup /\xc3\xa4 \"b c\n",
+        "a:2:10: a quote is not closed; write the second quote on this line",
+    ),
+    (
+        b"repeat 2\n  show\nend twice\n",
+        "a:3:5: nothing may follow \"end\"; remove this word",
+    ),
+    (
+        b"  end\n",
+        "a:1:3: no block is open here; remove this \"end\"",
+    ),
+    (
+        b"\n repeat 2\nx read\n",
+        "a:2:2: the block has no end; write \"end\" below its last line",
+    ),
+    (
+        b"ab\xff",
+        "a:1:3: the line is not UTF-8; save the file as UTF-8",
+    ),
+];
+
 #[test]
 fn faults_are_said(rt: HostRuntime) -> Result<(), Fail> {
-    let alloc = rt.alloc();
-    assert_eq!(rt;
-        said(alloc, "group /a\ngroup /ä \"b c\n".as_bytes())?.as_str(),
-        "a:2:10: a quote is not closed; write the second quote on this line"
-    );
-    assert_eq!(rt;
-        said(alloc, b"repeat 2\n  show\nend twice\n")?.as_str(),
-        "a:3:5: nothing may follow \"end\"; remove this word"
-    );
-    assert_eq!(rt;
-        said(alloc, b"  end\n")?.as_str(),
-        "a:1:3: no block is open here; remove this \"end\""
-    );
-    assert_eq!(rt;
-        said(alloc, b"\n repeat 2\nx read\n")?.as_str(),
-        "a:2:2: the block has no end; write \"end\" below its last line"
-    );
-    assert_eq!(rt;
-        said(alloc, b"ab\xff")?.as_str(),
-        "a:1:3: the line is not UTF-8; save the file as UTF-8"
-    );
+    for (text, line) in FAULTS {
+        let found = said(rt.alloc(), text)?;
+        assert_eq!(rt; found.as_str(), *line);
+    }
     Ok(())
+}
+
+/// Adds the column of a word, and the word with these values in place of their names.
+fn add_filled(alloc: Global, told: &mut String, word: &Word, values: &[Named]) -> Result<(), Fail> {
+    let pieces = word.pieces().ok_or("a brace")?;
+    let Ok(filled) = fill(alloc, pieces, values) else {
+        return Err("no value")?;
+    };
+    write!(told, "{}:{}|", word.column(), filled.as_str())?;
+    Ok(())
+}
+
+/// The same for the words of a text's first line, which is no line of a block.
+fn filled(alloc: Global, text: &[u8], values: &[Named]) -> Result<String, Fail> {
+    let Ok(scenario) = read(alloc, text) else {
+        return Err("a fault")?;
+    };
+    let line = scenario.lines.first().ok_or("no line")?;
+    if line.kind() != LineKind::Other {
+        return Err("another kind")?;
+    }
+    let mut told = String::new(alloc);
+    for word in line.words() {
+        add_filled(alloc, &mut told, word, values)?;
+    }
+    Ok(told)
+}
+
+/// The name `round`, with this word.
+fn round(alloc: Global, word: &str) -> Result<Vec<Named>, AllocError> {
+    let name = String::from_str(alloc, "round")?;
+    let word = String::from_str(alloc, word)?;
+    Ok(vec![in alloc; Named::new(name, word)]?)
 }
 
 #[test]
 fn a_quote_keeps_what_is_in_it(rt: HostRuntime) -> Result<(), Fail> {
-    let alloc = rt.alloc();
-    let Ok(scenario) = read(alloc, b"group /pods/\"a #{b\" x{round}y#z\n") else {
-        return Err("a fault")?;
-    };
-    let Some(line) = scenario.lines.first() else {
-        return Err("no line")?;
-    };
-    assert_eq!(rt; line.kind(), LineKind::Other);
-    let values = vec![in alloc;
-        Named::new(
-            String::from_str(alloc, "round")?,
-            String::from_str(alloc, "12")?
-        ),
-    ]?;
-    let mut told = String::new(alloc);
-    for word in line.words() {
-        let Some(pieces) = word.pieces() else {
-            return Err("a brace")?;
-        };
-        let Ok(filled) = fill(alloc, pieces, values.as_slice()) else {
-            return Err("no value")?;
-        };
-        let one = format!(in alloc; "{}:{}|", word.column(), filled.as_str())?;
-        told.push_str(one.as_str())?;
-    }
+    let values = round(rt.alloc(), "12")?;
+    let text = b"group /pods/\"a #{b\" x{round}y#z\n";
+    let told = filled(rt.alloc(), text, values.as_slice())?;
     assert_eq!(rt; told.as_str(), "1:group|7:/pods/a #{b|21:x12y|");
     Ok(())
 }
@@ -130,17 +147,23 @@ fn sources(alloc: Global, text: &str) -> Result<String, Fail> {
     Ok(told)
 }
 
+const SOURCES: &[(&str, &str)] = &[
+    (
+        "group  /größe/\"a #b\" {n}# c",
+        "1-6 group|8-21 /größe/\"a #b\"|22-25 {n}|",
+    ),
+    (
+        "show a{ {} \"{\" \"b\"} c",
+        "1-5 show|6-8 a{!|9-11 {}!|12-15 \"{\"|16-20 \"b\"}!|21-22 c|",
+    ),
+];
+
 #[test]
 fn words_are_kept_as_they_are_written(rt: HostRuntime) -> Result<(), Fail> {
-    let alloc = rt.alloc();
-    assert_eq!(rt;
-        sources(alloc, "group  /größe/\"a #b\" {n}# c")?.as_str(),
-        "1-6 group|8-21 /größe/\"a #b\"|22-25 {n}|"
-    );
-    assert_eq!(rt;
-        sources(alloc, "show a{ {} \"{\" \"b\"} c")?.as_str(),
-        "1-5 show|6-8 a{!|9-11 {}!|12-15 \"{\"|16-20 \"b\"}!|21-22 c|"
-    );
+    for (text, words) in SOURCES {
+        let found = sources(rt.alloc(), text)?;
+        assert_eq!(rt; found.as_str(), *words);
+    }
     Ok(())
 }
 
@@ -152,84 +175,106 @@ fn pages(alloc: Global, word: &str) -> Result<String, Fail> {
     }
 }
 
+const SIZES: &[(&str, &str)] = &[
+    ("1.5M", "384 384"),
+    ("4097", "1 2"),
+    (
+        "0.0000001K",
+        "\"0.0000001K\" is not a size; write a number with K, M, G or T, or 7p for 7 pages",
+    ),
+    ("4.000001K", "1 2"),
+    ("7p", "7 7"),
+    ("64MiB", "\"64MiB\" is not a size; write 64M"),
+    ("-1", "\"-1\" is not a size; write max"),
+];
+
 #[test]
 fn sizes_are_exact(rt: HostRuntime) -> Result<(), Fail> {
-    let alloc = rt.alloc();
-    assert_eq!(rt; pages(alloc, "1.5M")?.as_str(), "384 384");
-    assert_eq!(rt; pages(alloc, "4097")?.as_str(), "1 2");
-    assert_eq!(rt;
-        pages(alloc, "0.0000001K")?.as_str(),
-        "\"0.0000001K\" is not a size; write a number with K, M, G or T, or 7p for 7 pages"
-    );
-    assert_eq!(rt; pages(alloc, "4.000001K")?.as_str(), "1 2");
-    assert_eq!(rt; pages(alloc, "7p")?.as_str(), "7 7");
-    assert_eq!(rt;
-        pages(alloc, "64MiB")?.as_str(),
-        "\"64MiB\" is not a size; write 64M"
-    );
-    assert_eq!(rt;
-        pages(alloc, "-1")?.as_str(),
-        "\"-1\" is not a size; write max"
-    );
+    for (word, wanted) in SIZES {
+        let found = pages(rt.alloc(), word)?;
+        assert_eq!(rt; found.as_str(), *wanted);
+    }
     Ok(())
 }
 
 #[test]
 fn parts_and_names(rt: HostRuntime) {
-    assert!(rt; read_part("4096").is_none());
     assert!(rt;
-        matches!(read_part("1..2p"), Some(Ok(part)) if part.from == Size::Bytes { whole: 1, millionths: 0 } && part.to == Size::Pages(2))
+        read_part("4096").is_none()
+            && matches!(read_part("1..2p"), Some(Ok(part)) if part.from == Size::Bytes { whole: 1, millionths: 0 } && part.to == Size::Pages(2))
     );
-    assert_eq!(rt; read_names("web"), Some(("web", Which::Plain)));
     assert_eq!(rt;
-        read_names("web[1..30]"),
-        Some(("web", Which::Range(1, 30)))
+        [
+            read_names("web"),
+            read_names("web[1..30]"),
+            read_names("web[*]"),
+            read_names("web[2..1]"),
+        ],
+        [
+            Some(("web", Which::Plain)),
+            Some(("web", Which::Range(1, 30))),
+            Some(("web", Which::All)),
+            None,
+        ]
     );
-    assert_eq!(rt; read_names("web[*]"), Some(("web", Which::All)));
-    assert_eq!(rt; read_names("web[2..1]"), None);
 }
 
 #[test]
 fn unknown_names_are_said(rt: HostRuntime) -> Result<(), Fail> {
-    let alloc = rt.alloc();
     let unknown = Unknown {
         kind: "word",
         name: "gruop",
         meant: Some("group"),
     };
+    let said = format!(in rt.alloc(); "{unknown}")?;
+    let values = round(rt.alloc(), "")?;
+    let found = nearest_name(rt.alloc(), "rond", values.as_slice());
     assert_eq!(rt;
-        format!(in alloc; "{unknown}")?.as_str(),
-        "no such word \"gruop\"; did you mean \"group\"?"
+        (said.as_str(), found),
+        (
+            "no such word \"gruop\"; did you mean \"group\"?",
+            Ok(Some(0))
+        )
     );
-    let values = vec![in alloc; Named::new(String::from_str(alloc, "round")?, String::new(alloc))]?;
-    assert_eq!(rt; nearest_name(alloc, "rond", values.as_slice())?, Some(0));
     Ok(())
 }
 
-fn first_four(rt: &impl Abort, seed: u32, pages: [u32; 4]) {
-    assert_eq!(rt; draw(seed, 1, 0, 1000), pages[0]);
-    assert_eq!(rt; draw(seed, 2, 0, 1000), pages[1]);
-    assert_eq!(rt; draw(seed, 3, 0, 1000), pages[2]);
-    assert_eq!(rt; draw(seed, 4, 0, 1000), pages[3]);
+fn first_four(seed: u32) -> [u32; 4] {
+    [
+        draw(seed, 1, 0, 1000),
+        draw(seed, 2, 0, 1000),
+        draw(seed, 3, 0, 1000),
+        draw(seed, 4, 0, 1000),
+    ]
 }
 
 #[test]
 fn three_seeds_of_the_language(rt: HostRuntime) {
-    first_four(&rt, 0, [883, 431, 26, 970]);
-    first_four(&rt, 1, [566, 745, 971, 444]);
-    first_four(&rt, 7, [389, 16, 900, 582]);
+    assert_eq!(rt;
+        [first_four(0), first_four(1), first_four(7)],
+        [
+            [883, 431, 26, 970],
+            [566, 745, 971, 444],
+            [389, 16, 900, 582]
+        ]
+    );
 }
 
+const KNOWN: [&str; 5] = ["group", "set", "reclaim", "read", "free"];
+
+const NEAREST: &[(&str, Option<usize>)] = &[
+    ("gruop", Some(0)),
+    ("raed", Some(3)),
+    ("reclam", Some(2)),
+    ("frea", Some(4)),
+    ("sat", Some(1)),
+    ("it", None),
+    ("rmdir", None),
+];
+
 #[test]
-fn swapped_and_missing_letters(rt: HostRuntime) -> Result<(), Fail> {
-    let alloc = rt.alloc();
-    let known = ["group", "set", "reclaim", "read", "free"];
-    assert_eq!(rt; nearest(alloc, "gruop", &known)?, Some(0));
-    assert_eq!(rt; nearest(alloc, "raed", &known)?, Some(3));
-    assert_eq!(rt; nearest(alloc, "reclam", &known)?, Some(2));
-    assert_eq!(rt; nearest(alloc, "frea", &known)?, Some(4));
-    assert_eq!(rt; nearest(alloc, "sat", &known)?, Some(1));
-    assert_eq!(rt; nearest(alloc, "it", &known)?, None);
-    assert_eq!(rt; nearest(alloc, "rmdir", &known)?, None);
-    Ok(())
+fn swapped_and_missing_letters(rt: HostRuntime) {
+    for (word, wanted) in NEAREST {
+        assert_eq!(rt; nearest(rt.alloc(), word, &KNOWN), Ok(*wanted), "{word}");
+    }
 }

@@ -128,23 +128,6 @@ fn arrived(alloc: Global, ticket: u32, offset: usize, byte: u8) -> Result<Entry,
     ))
 }
 
-/// A page whose first byte is 5 is written out. It is read in again with this byte at an offset, and zeros at the
-/// others.
-fn out_and_in(alloc: Global, offset: usize, byte: u8) -> Result<Trace, AllocError> {
-    let mut trace = opened(alloc, 8)?;
-    add(&mut trace, spawned(1));
-    add(&mut trace, written(1, FIRST, 5));
-    add(
-        &mut trace,
-        entry(Event::Relieve(Cause::Frame), Reply::Out(TicketId(0))),
-    );
-    add(&mut trace, entry(Event::Left(TicketId(0)), Reply::Ok));
-    add(&mut trace, fetched(1, FIRST, 1));
-    add(&mut trace, arrived(alloc, 1, offset, byte)?);
-    add(&mut trace, read(1, FIRST, 5));
-    Ok(trace)
-}
-
 // The example of the README.
 #[test]
 fn the_first_wrong_read_is_named(rt: HostRuntime) -> Result<(), Fail> {
@@ -160,187 +143,396 @@ fn the_first_wrong_read_is_named(rt: HostRuntime) -> Result<(), Fail> {
     Ok(())
 }
 
-// Only the first of three is named.
-#[test]
-fn later_wrong_reads_are_not_named(rt: HostRuntime) -> Result<(), Fail> {
-    let mut trace = opened(rt.alloc(), 8)?;
-    add(&mut trace, spawned(1));
-    add(&mut trace, read(1, FIRST, 0));
-    add(&mut trace, read(1, FIRST, 1));
-    add(&mut trace, read(1, FIRST, 0));
-    add(&mut trace, read(1, SECOND, 2));
-    assert_eq!(rt; audit(&trace), Err(First { entry: 3 }));
-    Ok(())
+/// What is done with a trace.
+#[derive(Clone, Copy)]
+enum Made {
+    Spawn(u32),
+    /// A task forks a child.
+    Fork(u32, u32),
+    Exit(u32),
+    Kill(u32),
+    /// A task frees a page.
+    Free(u32, u32),
+    Write(u32, Place, u8),
+    Read(u32, Place, u8),
+    /// A page begins to be written out, with this ticket.
+    Out(u32),
+    /// It was written out.
+    Left(u32),
+    /// A task's read has to wait until its page comes, with this ticket.
+    Fetch(u32, Place, u32),
+    /// The page comes, with this byte at this offset and zeros at the others.
+    Arrive(u32, usize, u8),
+    /// Memory is taken for a task's links.
+    Reserve(u32),
+    /// An audit finds nothing wrong.
+    Sound,
+    /// An audit names this entry, counted from 1.
+    Wrong(usize),
 }
 
-#[test]
-fn a_device_that_keeps_its_bytes_passes(rt: HostRuntime) -> Result<(), Fail> {
-    let trace = out_and_in(rt.alloc(), 0, 5)?;
-    assert_eq!(rt; trace.len(), 7);
-    assert_eq!(rt; audit(&trace), Ok(()));
-    Ok(())
+/// The entry that is made, if it is one.
+fn entry_of(alloc: Global, made: Made) -> Result<Option<Entry>, AllocError> {
+    Ok(Some(match made {
+        Made::Spawn(task) => spawned(task),
+        Made::Fork(task, child) => forked(task, child),
+        Made::Exit(task) => entry(Event::Exit(TaskId(task)), Reply::Ok),
+        Made::Kill(task) => entry(
+            Event::Relieve(Cause::Frame),
+            Reply::KilledTask(TaskId(task)),
+        ),
+        Made::Free(task, page) => freed(task, page),
+        Made::Write(task, place, byte) => written(task, place, byte),
+        Made::Read(task, place, byte) => read(task, place, byte),
+        Made::Out(ticket) => entry(Event::Relieve(Cause::Frame), Reply::Out(TicketId(ticket))),
+        Made::Left(ticket) => entry(Event::Left(TicketId(ticket)), Reply::Ok),
+        Made::Fetch(task, place, ticket) => fetched(task, place, ticket),
+        Made::Arrive(ticket, offset, byte) => arrived(alloc, ticket, offset, byte)?,
+        Made::Reserve(_) | Made::Sound | Made::Wrong(_) => return Ok(None),
+    }))
 }
 
-// The read after it, of the same byte, gave what was written.
-#[test]
-fn a_device_that_adds_one_is_found_at_the_arrival(rt: HostRuntime) -> Result<(), Fail> {
-    let trace = out_and_in(rt.alloc(), 0, 6)?;
-    assert_eq!(rt; audit(&trace), Err(First { entry: 6 }));
-    Ok(())
-}
-
-#[test]
-fn the_last_byte_of_a_page_counts(rt: HostRuntime) -> Result<(), Fail> {
-    let trace = out_and_in(rt.alloc(), 4095, 1)?;
-    assert_eq!(rt; audit(&trace), Err(First { entry: 6 }));
-    Ok(())
-}
-
-// No entry asked for it.
-#[test]
-fn an_arrival_without_a_read_in_is_wrong(rt: HostRuntime) -> Result<(), Fail> {
-    let mut trace = opened(rt.alloc(), 4)?;
-    add(&mut trace, spawned(1));
-    add(&mut trace, arrived(rt.alloc(), 7, 0, 0)?);
-    assert_eq!(rt; audit(&trace), Err(First { entry: 2 }));
-    Ok(())
-}
-
-#[test]
-fn a_child_reads_what_its_parent_wrote_before(rt: HostRuntime) -> Result<(), Fail> {
-    let mut trace = opened(rt.alloc(), 8)?;
-    add(&mut trace, spawned(1));
-    add(&mut trace, written(1, FIRST, 5));
-    add(&mut trace, forked(1, 2));
-    add(&mut trace, written(1, FIRST, 6));
-    add(&mut trace, read(2, FIRST, 5));
-    add(&mut trace, read(1, FIRST, 6));
-    assert_eq!(rt; audit(&trace), Ok(()));
-    add(&mut trace, read(2, FIRST, 6));
-    assert_eq!(rt; audit(&trace), Err(First { entry: 7 }));
-    Ok(())
-}
-
-#[test]
-fn a_child_writes_for_itself(rt: HostRuntime) -> Result<(), Fail> {
-    let mut trace = opened(rt.alloc(), 8)?;
-    add(&mut trace, spawned(1));
-    add(&mut trace, written(1, SECOND, 5));
-    add(&mut trace, forked(1, 2));
-    add(&mut trace, written(2, FIRST, 6));
-    add(&mut trace, read(2, SECOND, 5));
-    add(&mut trace, read(1, FIRST, 0));
-    assert_eq!(rt; audit(&trace), Ok(()));
-    add(&mut trace, read(1, FIRST, 6));
-    assert_eq!(rt; audit(&trace), Err(First { entry: 7 }));
-    Ok(())
-}
-
-#[test]
-fn a_freed_page_reads_zeros(rt: HostRuntime) -> Result<(), Fail> {
-    let mut trace = opened(rt.alloc(), 8)?;
-    add(&mut trace, spawned(1));
-    add(&mut trace, written(1, FIRST, 5));
-    add(&mut trace, freed(1, 0));
-    add(&mut trace, read(1, FIRST, 0));
-    assert_eq!(rt; audit(&trace), Ok(()));
-    add(&mut trace, read(1, FIRST, 5));
-    assert_eq!(rt; audit(&trace), Err(First { entry: 5 }));
-    Ok(())
-}
-
-// A task has the number of another, which ended.
-#[test]
-fn a_new_task_reads_zeros(rt: HostRuntime) -> Result<(), Fail> {
-    let mut trace = opened(rt.alloc(), 8)?;
-    add(&mut trace, spawned(1));
-    add(&mut trace, written(1, FIRST, 5));
-    add(&mut trace, entry(Event::Exit(TaskId(1)), Reply::Ok));
-    trace.reserve(TaskId(1))?;
-    add(&mut trace, spawned(1));
-    add(&mut trace, read(1, FIRST, 0));
-    assert_eq!(rt; audit(&trace), Ok(()));
-    add(&mut trace, read(1, FIRST, 5));
-    assert_eq!(rt; audit(&trace), Err(First { entry: 6 }));
-    Ok(())
-}
-
-// The file had what arrived first. Another page of it, of which nothing arrived, had zeros.
-#[test]
-fn a_file_begins_as_it_first_arrived(rt: HostRuntime) -> Result<(), Fail> {
-    let mut trace = opened(rt.alloc(), 8)?;
-    add(&mut trace, spawned(1));
-    add(&mut trace, fetched(1, OF_A_FILE, 0));
-    add(&mut trace, arrived(rt.alloc(), 0, 0, 9)?);
-    add(&mut trace, read(1, OF_A_FILE, 9));
-    let other = Place::File {
-        file: 0,
-        page: 2,
-        offset: 0,
-    };
-    add(&mut trace, read(1, other, 0));
-    assert_eq!(rt; audit(&trace), Ok(()));
-    Ok(())
-}
-
-#[test]
-fn a_file_that_arrives_otherwise_the_second_time_is_named(rt: HostRuntime) -> Result<(), Fail> {
-    let mut trace = opened(rt.alloc(), 8)?;
-    add(&mut trace, spawned(1));
-    add(&mut trace, fetched(1, OF_A_FILE, 0));
-    add(&mut trace, arrived(rt.alloc(), 0, 0, 9)?);
-    add(&mut trace, fetched(1, OF_A_FILE, 1));
-    add(&mut trace, arrived(rt.alloc(), 1, 0, 9)?);
-    assert_eq!(rt; audit(&trace), Ok(()));
-    add(&mut trace, fetched(1, OF_A_FILE, 2));
-    add(&mut trace, arrived(rt.alloc(), 2, 0, 8)?);
-    assert_eq!(rt; audit(&trace), Err(First { entry: 7 }));
-    Ok(())
-}
-
-// What one task writes to a file, another reads. The device has to bring it.
-#[test]
-fn a_file_is_the_same_for_all_tasks(rt: HostRuntime) -> Result<(), Fail> {
-    let mut trace = opened(rt.alloc(), 9)?;
-    add(&mut trace, spawned(1));
-    add(&mut trace, spawned(2));
-    add(&mut trace, fetched(1, OF_A_FILE, 0));
-    add(&mut trace, arrived(rt.alloc(), 0, 0, 9)?);
-    add(&mut trace, written(1, OF_A_FILE, 4));
-    add(&mut trace, read(2, OF_A_FILE, 4));
-    add(&mut trace, fetched(2, OF_A_FILE, 1));
-    add(&mut trace, arrived(rt.alloc(), 1, 0, 4)?);
-    assert_eq!(rt; audit(&trace), Ok(()));
-    add(&mut trace, read(2, OF_A_FILE, 9));
-    assert_eq!(rt; audit(&trace), Err(First { entry: 9 }));
-    Ok(())
-}
-
-// Eight pages are written, and then read in round-robin order.
-#[test]
-fn many_hits(rt: HostRuntime) -> Result<(), Fail> {
-    let mut trace = opened(rt.alloc(), 302)?;
-    add(&mut trace, spawned(1));
-    for page in 0..8u8 {
-        let place = Place::Virtual {
-            page: u32::from(page),
-            offset: 4,
-        };
-        add(&mut trace, written(1, place, page + 1));
+/// What an audit has to find.
+fn wanted(made: Made) -> Option<Result<(), First>> {
+    match made {
+        Made::Sound => Some(Ok(())),
+        Made::Wrong(entry) => Some(Err(First { entry })),
+        _ => None,
     }
-    for turn in 0..292u32 {
+}
+
+/// Does it, and audits the trace if that is to be done. Returns whether the audit finds what it has to find.
+fn is_right(alloc: Global, trace: &mut Trace, made: Made) -> Result<bool, AllocError> {
+    if let Some(entry) = entry_of(alloc, made)? {
+        add(trace, entry);
+    }
+    if let Made::Reserve(task) = made {
+        trace.reserve(TaskId(task))?;
+    }
+    match wanted(made) {
+        Some(found) => Ok(audit(trace) == found),
+        None => Ok(true),
+    }
+}
+
+/// How many of these are done until an audit finds something else. All of them, if none does.
+fn right_until(alloc: Global, room: usize, made: &[Made]) -> Result<usize, AllocError> {
+    let mut trace = opened(alloc, room)?;
+    for (at, one) in made.iter().enumerate() {
+        if !is_right(alloc, &mut trace, *one)? {
+            return Ok(at);
+        }
+    }
+    Ok(made.len())
+}
+
+/// What traces show, how many entries they have room for, and what is done.
+const TRACES: &[(&str, usize, &[Made])] = &[
+    (
+        "only the first of three wrong reads is named",
+        8,
+        &[
+            Made::Spawn(1),
+            Made::Read(1, FIRST, 0),
+            Made::Read(1, FIRST, 1),
+            Made::Read(1, FIRST, 0),
+            Made::Read(1, SECOND, 2),
+            Made::Wrong(3),
+        ],
+    ),
+    (
+        "a device that keeps its bytes passes",
+        8,
+        &[
+            Made::Spawn(1),
+            Made::Write(1, FIRST, 5),
+            Made::Out(0),
+            Made::Left(0),
+            Made::Fetch(1, FIRST, 1),
+            Made::Arrive(1, 0, 5),
+            Made::Read(1, FIRST, 5),
+            Made::Sound,
+        ],
+    ),
+    // The read after it, of the same byte, gave what was written.
+    (
+        "a device that adds one is found at the arrival",
+        8,
+        &[
+            Made::Spawn(1),
+            Made::Write(1, FIRST, 5),
+            Made::Out(0),
+            Made::Left(0),
+            Made::Fetch(1, FIRST, 1),
+            Made::Arrive(1, 0, 6),
+            Made::Read(1, FIRST, 5),
+            Made::Wrong(6),
+        ],
+    ),
+    (
+        "the last byte of a page counts",
+        8,
+        &[
+            Made::Spawn(1),
+            Made::Write(1, FIRST, 5),
+            Made::Out(0),
+            Made::Left(0),
+            Made::Fetch(1, FIRST, 1),
+            Made::Arrive(1, 4095, 1),
+            Made::Read(1, FIRST, 5),
+            Made::Wrong(6),
+        ],
+    ),
+    // No entry asked for it.
+    (
+        "an arrival without a read-in is wrong",
+        4,
+        &[Made::Spawn(1), Made::Arrive(7, 0, 0), Made::Wrong(2)],
+    ),
+    (
+        "a child reads what its parent wrote before",
+        8,
+        &[
+            Made::Spawn(1),
+            Made::Write(1, FIRST, 5),
+            Made::Fork(1, 2),
+            Made::Write(1, FIRST, 6),
+            Made::Read(2, FIRST, 5),
+            Made::Read(1, FIRST, 6),
+            Made::Sound,
+            Made::Read(2, FIRST, 6),
+            Made::Wrong(7),
+        ],
+    ),
+    (
+        "a child writes for itself",
+        8,
+        &[
+            Made::Spawn(1),
+            Made::Write(1, SECOND, 5),
+            Made::Fork(1, 2),
+            Made::Write(2, FIRST, 6),
+            Made::Read(2, SECOND, 5),
+            Made::Read(1, FIRST, 0),
+            Made::Sound,
+            Made::Read(1, FIRST, 6),
+            Made::Wrong(7),
+        ],
+    ),
+    (
+        "a freed page reads zeros",
+        8,
+        &[
+            Made::Spawn(1),
+            Made::Write(1, FIRST, 5),
+            Made::Free(1, 0),
+            Made::Read(1, FIRST, 0),
+            Made::Sound,
+            Made::Read(1, FIRST, 5),
+            Made::Wrong(5),
+        ],
+    ),
+    (
+        "a new task with the number of one that ended reads zeros",
+        8,
+        &[
+            Made::Spawn(1),
+            Made::Write(1, FIRST, 5),
+            Made::Exit(1),
+            Made::Reserve(1),
+            Made::Spawn(1),
+            Made::Read(1, FIRST, 0),
+            Made::Sound,
+            Made::Read(1, FIRST, 5),
+            Made::Wrong(6),
+        ],
+    ),
+    // The file had what arrived first. Another page of it, of which nothing arrived, had zeros.
+    (
+        "a file begins as it first arrived",
+        8,
+        &[
+            Made::Spawn(1),
+            Made::Fetch(1, OF_A_FILE, 0),
+            Made::Arrive(0, 0, 9),
+            Made::Read(1, OF_A_FILE, 9),
+            Made::Read(
+                1,
+                Place::File {
+                    file: 0,
+                    page: 2,
+                    offset: 0,
+                },
+                0,
+            ),
+            Made::Sound,
+        ],
+    ),
+    (
+        "a file that arrives otherwise the second time is named",
+        8,
+        &[
+            Made::Spawn(1),
+            Made::Fetch(1, OF_A_FILE, 0),
+            Made::Arrive(0, 0, 9),
+            Made::Fetch(1, OF_A_FILE, 1),
+            Made::Arrive(1, 0, 9),
+            Made::Sound,
+            Made::Fetch(1, OF_A_FILE, 2),
+            Made::Arrive(2, 0, 8),
+            Made::Wrong(7),
+        ],
+    ),
+    // What one task writes to a file, another reads. The device has to bring it.
+    (
+        "a file is the same for all tasks",
+        9,
+        &[
+            Made::Spawn(1),
+            Made::Spawn(2),
+            Made::Fetch(1, OF_A_FILE, 0),
+            Made::Arrive(0, 0, 9),
+            Made::Write(1, OF_A_FILE, 4),
+            Made::Read(2, OF_A_FILE, 4),
+            Made::Fetch(2, OF_A_FILE, 1),
+            Made::Arrive(1, 0, 4),
+            Made::Sound,
+            Made::Read(2, OF_A_FILE, 9),
+            Made::Wrong(9),
+        ],
+    ),
+    (
+        "behind two honest arrivals, one that has a byte of the first is named",
+        16,
+        &[
+            Made::Spawn(1),
+            Made::Write(1, FIRST, 0),
+            Made::Fetch(1, FIRST, 0),
+            Made::Arrive(0, 0, 0),
+            Made::Write(1, FIRST, 1),
+            Made::Fetch(1, FIRST, 1),
+            Made::Arrive(1, 0, 1),
+            Made::Sound,
+            Made::Fetch(1, FIRST, 2),
+            Made::Arrive(2, 0, 0),
+            Made::Wrong(9),
+        ],
+    ),
+    (
+        "and one that lacks the byte that was written before its read-in",
+        16,
+        &[
+            Made::Spawn(1),
+            Made::Write(1, FIRST, 0),
+            Made::Fetch(1, FIRST, 0),
+            Made::Arrive(0, 0, 0),
+            Made::Write(1, FIRST, 1),
+            Made::Fetch(1, FIRST, 1),
+            Made::Arrive(1, 0, 1),
+            Made::Write(1, SECOND, 5),
+            Made::Fetch(1, FIRST, 2),
+            Made::Arrive(2, 0, 1),
+            Made::Wrong(10),
+        ],
+    ),
+    (
+        "and a read of what was never written, behind an honest one",
+        16,
+        &[
+            Made::Spawn(1),
+            Made::Write(1, FIRST, 0),
+            Made::Fetch(1, FIRST, 0),
+            Made::Arrive(0, 0, 0),
+            Made::Write(1, FIRST, 1),
+            Made::Fetch(1, FIRST, 1),
+            Made::Arrive(1, 0, 1),
+            Made::Fetch(1, FIRST, 2),
+            Made::Arrive(2, 0, 1),
+            Made::Read(1, FIRST, 1),
+            Made::Read(1, SECOND, 0),
+            Made::Sound,
+            Made::Read(1, SECOND, 1),
+            Made::Wrong(12),
+        ],
+    ),
+    // It begins with zeros. No memory was asked for its links.
+    (
+        "a number of a task that exited or was killed is audited",
+        11,
+        &[
+            Made::Spawn(1),
+            Made::Spawn(2),
+            Made::Write(1, FIRST, 7),
+            Made::Exit(1),
+            Made::Kill(2),
+            Made::Spawn(1),
+            Made::Spawn(2),
+            Made::Read(1, FIRST, 0),
+            Made::Write(2, FIRST, 6),
+            Made::Read(2, FIRST, 6),
+            Made::Sound,
+            Made::Read(1, FIRST, 7),
+            Made::Wrong(11),
+        ],
+    ),
+    // Task 3 has none, so no link is known, and the audit says the same.
+    (
+        "a task without memory for its links is audited",
+        8,
+        &[
+            Made::Spawn(1),
+            Made::Write(1, FIRST, 5),
+            Made::Fork(1, 3),
+            Made::Write(3, SECOND, 6),
+            Made::Read(3, FIRST, 5),
+            Made::Sound,
+            Made::Read(3, SECOND, 5),
+            Made::Wrong(6),
+        ],
+    ),
+];
+
+#[test]
+fn the_audit_names_the_first_wrong_entry(rt: HostRuntime) {
+    for (name, room, made) in TRACES {
+        assert_eq!(rt;
+            right_until(rt.alloc(), *room, made),
+            Ok(made.len()),
+            "{name}"
+        );
+    }
+}
+
+/// Eight pages are written, and then read in round-robin order.
+fn hit_often(trace: &mut Trace) {
+    add(trace, spawned(1));
+    for turn in 0..300u32 {
         let page = (turn % 8) as u8;
         let place = Place::Virtual {
             page: u32::from(page),
             offset: 4,
         };
-        add(&mut trace, read(1, place, page + 1));
+        add(
+            trace,
+            if turn < 8 {
+                written(1, place, page + 1)
+            } else {
+                read(1, place, page + 1)
+            },
+        );
     }
-    assert_eq!(rt; trace.len(), 301);
-    assert_eq!(rt; audit(&trace), Ok(()));
+}
+
+#[test]
+fn many_hits(rt: HostRuntime) {
+    let mut trace = opened(rt.alloc(), 302).expect(&rt, "no memory");
+    hit_often(&mut trace);
+    let (entries, sound) = (trace.len(), audit(&trace));
     add(&mut trace, read(1, FIRST, 1));
-    assert_eq!(rt; audit(&trace), Err(First { entry: 302 }));
-    Ok(())
+    assert_eq!(rt;
+        (entries, sound, audit(&trace)),
+        (301, Ok(()), Err(First { entry: 302 }))
+    );
 }
 
 /// Six hundred reads of one place by a task. Before these, the parent wrote two bytes of one page and one byte of each
@@ -392,23 +584,26 @@ fn is_quicker(
     Ok(false)
 }
 
+/// Reads whose links are known: the task, the place and the byte.
+const LINKED: &[(u32, Place, u8)] = &[
+    (1, FIRST, 5),
+    (1, Place::Virtual { page: 6, offset: 0 }, 0),
+    (2, FIRST, 5),
+    (2, Place::Virtual { page: 2, offset: 0 }, 0),
+    (2, Place::Virtual { page: 5, offset: 0 }, 9),
+    (2, Place::Virtual { page: 6, offset: 0 }, 0),
+    (2, Place::Virtual { page: 7, offset: 0 }, 0),
+    (2, OF_A_FILE, 4),
+];
+
 // No contract says that a link is known. With memory for the tasks, the link of each read is known, and the audit is
 // quick. If it isn't known, the walk goes back through all reads. This is so for the tasks 3 and 4, which have no
 // memory.
 #[test]
 fn links_make_audits_quick(rt: HostRuntime) -> Result<(), Fail> {
     let slow = reads(rt.alloc(), [3, 4], 3, FIRST, 5)?;
-    for (task, place, byte) in [
-        (1, FIRST, 5),
-        (1, page_of_a_task(6), 0),
-        (2, FIRST, 5),
-        (2, page_of_a_task(2), 0),
-        (2, page_of_a_task(5), 9),
-        (2, page_of_a_task(6), 0),
-        (2, page_of_a_task(7), 0),
-        (2, OF_A_FILE, 4),
-    ] {
-        let trace = reads(rt.alloc(), [1, 2], task, place, byte)?;
+    for (task, place, byte) in LINKED {
+        let trace = reads(rt.alloc(), [1, 2], *task, *place, *byte)?;
         assert!(rt; is_quicker(&rt, (8, &trace), (1, &slow))?);
     }
     Ok(())
@@ -440,78 +635,16 @@ fn arrivals_make_audits_quick(rt: HostRuntime) -> Result<(), Fail> {
     Ok(())
 }
 
-// Behind two honest arrivals, a wrong one is named: it has a byte of the first one, the byte that was written before
-// its read-in is missing, or nothing was written.
 #[test]
-fn a_wrong_arrival_behind_honest_ones_is_named(rt: HostRuntime) -> Result<(), Fail> {
-    let mut trace = swapped(rt.alloc(), 2, false)?;
-    add(&mut trace, fetched(1, FIRST, 2));
-    add(&mut trace, arrived(rt.alloc(), 2, 0, 0)?);
-    assert_eq!(rt; audit(&trace), Err(First { entry: 9 }));
-    let mut trace = swapped(rt.alloc(), 2, false)?;
-    add(&mut trace, written(1, SECOND, 5));
-    add(&mut trace, fetched(1, FIRST, 2));
-    add(&mut trace, arrived(rt.alloc(), 2, 0, 1)?);
-    assert_eq!(rt; audit(&trace), Err(First { entry: 10 }));
-    let mut trace = swapped(rt.alloc(), 2, false)?;
-    add(&mut trace, fetched(1, FIRST, 2));
-    add(&mut trace, arrived(rt.alloc(), 2, 0, 1)?);
-    add(&mut trace, read(1, FIRST, 1));
-    add(&mut trace, read(1, SECOND, 0));
-    assert_eq!(rt; audit(&trace), Ok(()));
-    add(&mut trace, read(1, SECOND, 1));
-    assert_eq!(rt; audit(&trace), Err(First { entry: 12 }));
-    Ok(())
-}
-
-// A task with the number of one that ended or was killed begins with zeros. No memory was asked for its links.
-#[test]
-fn a_number_of_a_task_that_ended_is_audited(rt: HostRuntime) -> Result<(), Fail> {
-    let mut trace = opened(rt.alloc(), 11)?;
-    add(&mut trace, spawned(1));
-    add(&mut trace, spawned(2));
-    add(&mut trace, written(1, FIRST, 7));
-    add(&mut trace, entry(Event::Exit(TaskId(1)), Reply::Ok));
-    let killed = Reply::KilledTask(TaskId(2));
-    add(&mut trace, entry(Event::Relieve(Cause::Frame), killed));
-    add(&mut trace, spawned(1));
-    add(&mut trace, spawned(2));
-    add(&mut trace, read(1, FIRST, 0));
-    add(&mut trace, written(2, FIRST, 6));
-    add(&mut trace, read(2, FIRST, 6));
-    assert_eq!(rt; audit(&trace), Ok(()));
-    add(&mut trace, read(1, FIRST, 7));
-    assert_eq!(rt; audit(&trace), Err(First { entry: 11 }));
-    Ok(())
-}
-
-// Without memory for a task no link is known, and the audit says the same.
-#[test]
-fn a_task_without_memory_is_audited(rt: HostRuntime) -> Result<(), Fail> {
-    let mut trace = opened(rt.alloc(), 8)?;
+fn entries_come_back(rt: HostRuntime) {
+    let mut trace = opened(rt.alloc(), 3).expect(&rt, "no memory");
     add(&mut trace, spawned(1));
     add(&mut trace, written(1, FIRST, 5));
-    add(&mut trace, forked(1, 3));
-    add(&mut trace, written(3, SECOND, 6));
-    add(&mut trace, read(3, FIRST, 5));
-    assert_eq!(rt; audit(&trace), Ok(()));
-    add(&mut trace, read(3, SECOND, 5));
-    assert_eq!(rt; audit(&trace), Err(First { entry: 6 }));
-    Ok(())
-}
-
-#[test]
-fn entries_come_back(rt: HostRuntime) -> Result<(), Fail> {
-    let mut trace = opened(rt.alloc(), 3)?;
-    add(&mut trace, spawned(1));
-    add(&mut trace, written(1, FIRST, 5));
-    assert_eq!(rt; trace.limit(), 3);
-    assert_eq!(rt; trace.entries().len(), 2);
+    let (limit, lent) = (trace.limit(), trace.entries().len());
     let entries = trace.into_entries();
-    assert_eq!(rt; entries.len(), 2);
-    match entries.get(1) {
-        Some(last) => assert_eq!(rt; last.reply, Reply::Done { byte: 5, hit: None }),
-        None => assert!(rt; false),
-    }
-    Ok(())
+    let last = entries.get(1).map(|last| last.reply);
+    assert_eq!(rt;
+        (limit, lent, entries.len(), last),
+        (3, 2, 2, Some(Reply::Done { byte: 5, hit: None }))
+    );
 }

@@ -2,7 +2,6 @@
 
 use orders::Fault;
 use std::alloc::{AllocError, Global};
-use std::test::Fail;
 use walks::{Machine, Walk, walk_all};
 
 /// Actors with a number of turns each. It gathers how long each run was.
@@ -73,40 +72,46 @@ fn machine_of(alloc: Global, turns: &[u32], gives_up: bool) -> Result<Counters, 
     })
 }
 
-// Two turns and three have 10 orders; three, three and three have 9! / (3! 3! 3!) = 1,680.
-#[test]
-fn every_order_is_walked_once(rt: HostRuntime) -> Result<(), Fail> {
-    let mut machine = machine_of(rt.alloc(), &[2, 3], false)?;
-    assert_eq!(rt; walk_all(rt.alloc(), &mut machine, 5, 100)?, Walk::All(10));
-    assert_eq!(rt;
-        machine.lengths.as_slice(),
-        [5, 5, 5, 5, 5, 5, 5, 5, 5, 5].as_slice()
-    );
-    let mut machine = machine_of(rt.alloc(), &[3, 3, 3], false)?;
-    assert_eq!(rt;
-        walk_all(rt.alloc(), &mut machine, 9, 2000)?,
-        Walk::All(1680)
-    );
-    Ok(())
+/// What a walk over a machine's orders finds, how many runs with all turns it made, and how many others.
+fn walked(
+    alloc: Global,
+    turns: &[u32],
+    gives_up: bool,
+    depth: usize,
+    most: u64,
+) -> Result<(Result<Walk, Fault>, usize, usize), AllocError> {
+    let mut machine = machine_of(alloc, turns, gives_up)?;
+    let found = walk_all(alloc, &mut machine, depth, most);
+    let all = turns.iter().fold(0u32, |all, some| all.wrapping_add(*some));
+    let runs = machine
+        .lengths
+        .iter()
+        .filter(|length| **length == all)
+        .count();
+    Ok((found, runs, machine.lengths.len().wrapping_sub(runs)))
 }
 
-// A limit that is one too small is noticed, for the runs and for their turns.
-#[test]
-fn a_walk_stops_at_its_limits(rt: HostRuntime) -> Result<(), Fail> {
-    let mut machine = machine_of(rt.alloc(), &[2, 3], false)?;
-    assert_eq!(rt; walk_all(rt.alloc(), &mut machine, 5, 9)?, Walk::Stopped);
-    assert_eq!(rt; machine.lengths.len(), 9);
-    let mut machine = machine_of(rt.alloc(), &[2, 3], false)?;
-    assert_eq!(rt; walk_all(rt.alloc(), &mut machine, 4, 100)?, Walk::TooDeep);
-    Ok(())
-}
+/// The turns of each actor, whether the machine gives up, the most turns and runs, what the walk finds, and how many runs
+/// with all turns it made.
+const WALKS: &[(&[u32], bool, usize, u64, Result<Walk, Fault>, usize)] = &[
+    // Two turns and three have 10 orders; three, three and three have 9! / (3! 3! 3!) = 1,680.
+    (&[2, 3], false, 5, 100, Ok(Walk::All(10)), 10),
+    (&[3, 3, 3], false, 9, 2000, Ok(Walk::All(1680)), 1680),
+    // A limit that is one too small is noticed, for the runs and for their turns.
+    (&[2, 3], false, 5, 9, Ok(Walk::Stopped), 9),
+    (&[2, 3], false, 4, 100, Ok(Walk::TooDeep), 0),
+    // From the second run on, no actor is ready.
+    (&[2, 3], true, 5, 100, Err(Fault::Changed), 1),
+];
 
 #[test]
-fn a_machine_that_changes_is_noticed(rt: HostRuntime) -> Result<(), Fail> {
-    let mut machine = machine_of(rt.alloc(), &[2, 3], true)?;
-    let Err(fault) = walk_all(rt.alloc(), &mut machine, 5, 100) else {
-        return Err(Fail::from("no fault"));
-    };
-    assert_eq!(rt; fault, Fault::Changed);
-    Ok(())
+fn every_order_is_walked_once(rt: HostRuntime) {
+    for (turns, gives_up, depth, most, wanted, runs) in WALKS {
+        let found = walked(rt.alloc(), turns, *gives_up, *depth, *most);
+        assert_eq!(rt;
+            found,
+            Ok((*wanted, *runs, 0)),
+            "{turns:?}, at most {depth} turns and {most} runs"
+        );
+    }
 }

@@ -9,6 +9,7 @@ use live::Unnamed;
 use scripts::{Mode, Script, each_actor_has_its_row, read};
 use std::alloc::Global;
 use std::marker::Brand;
+use std::str;
 use std::sync::Wait;
 use std::test::Fail;
 use std::thread::Threads;
@@ -83,10 +84,8 @@ fn the_first_wrong_entry_is_named(rt: HostRuntime) -> Result<(), Fail> {
         b"swap 1\ngroup /a\ntask 1 /a\n1 write 0 0 5\nset / memory.reclaim 4096\n1 read 0 0\n";
     let (out, err, status) = run_text(&rt, rt.alloc(), text)?;
     assert_eq!(rt;
-        out.as_slice(),
-        b"1 6\naudit failed at entry 7\n".as_slice()
+        (str::from_utf8(&out), err.len(), status),
+        (Ok("1 6\naudit failed at entry 7\n"), 0, 1)
     );
-    assert!(rt; err.is_empty());
-    assert_eq!(rt; status, 1);
     Ok(())
 }

@@ -1,9 +1,8 @@
 //! What is written during a run, in addition to its answers.
 
-use std::alloc::Global;
+use std::alloc::{AllocError, Global};
 use std::io::{Error, ErrorKind, Write};
 use std::process::Abort;
-use std::test::Fail;
 use std::{io, str};
 use subcommands::{Options, run_script, status_of};
 
@@ -46,51 +45,74 @@ impl Write for Limited {
     }
 }
 
+/// What is printed within this number of writes.
+const BEGINNINGS: &[&str] = &[
+    "",
+    "killed 1\n",
+    "killed 1\n1 killed\n",
+    "killed 1\n1 killed\n4096\n",
+    PRINTED,
+];
+
+/// Runs the script `a.memcg`, and returns its status.
+fn status<O: Write, E: Write>(
+    alloc: Global,
+    options: Options,
+    script: &str,
+    out: &mut O,
+    err: &mut E,
+) -> u8 {
+    let ran = run_script(alloc, options, "a.memcg", script.as_bytes(), out, err);
+    status_of(ran, err)
+}
+
 // Each answer is written in a write of its own. The answers before one that can't be written are therefore out.
 #[test]
 fn answers_are_written_as_they_come(rt: HostRuntime) {
-    let alloc = rt.alloc();
-    for writes in 0..=4 {
+    for (writes, printed) in BEGINNINGS.iter().enumerate() {
         let mut out = Limited {
-            kept: Vec::new(alloc),
+            kept: Vec::new(rt.alloc()),
             writes,
         };
-        let mut err = Vec::new(alloc);
-        let script = OVER_LIMIT.as_bytes();
-        let ran = run_script(
-            alloc,
+        let mut err = Vec::new(rt.alloc());
+        let found = status(
+            rt.alloc(),
             Options::default(),
-            "a.memcg",
-            script,
+            OVER_LIMIT,
             &mut out,
             &mut err,
         );
-        let status = status_of(ran, &mut err);
-        assert_eq!(rt; status, if writes == 4 { 0 } else { 1 }, "{writes} writes");
         let Limited { kept, writes: _ } = out;
-        let mut wanted = Vec::new(alloc);
-        for line in PRINTED.lines().take(writes) {
-            assert!(rt; writeln!(&mut wanted, "{line}").is_ok());
-        }
+        let wanted = if writes == 4 { 0 } else { 1 };
         assert_eq!(rt;
-            str::from_utf8(&kept),
-            str::from_utf8(&wanted),
+            (found, str::from_utf8(&kept)),
+            (wanted, Ok(*printed)),
             "{writes} writes"
         );
     }
 }
 
+// The script ends with this status, and writes this to standard output and this to standard error.
+fn ends<R: Abort + AllocGlobal>(
+    rt: &R,
+    options: Options,
+    script: &str,
+    out: &str,
+    err: &str,
+    wanted: u8,
+) {
+    let mut printed = Vec::new(rt.alloc());
+    let mut said = Vec::new(rt.alloc());
+    let found = status(rt.alloc(), options, script, &mut printed, &mut said);
+    assert_eq!(rt;
+        (str::from_utf8(&said), str::from_utf8(&printed), found),
+        (Ok(err), Ok(out), wanted)
+    );
+}
+
 // The script ends with status 0, and writes this to standard output and this to standard error.
 fn writes<R: Abort + AllocGlobal>(rt: &R, options: Options, script: &str, out: &str, err: &str) {
-    let alloc: Global = rt.alloc();
-    let script = script.as_bytes();
-    let mut printed = Vec::new(alloc);
-    let mut said = Vec::new(alloc);
-    let ran = run_script(alloc, options, "a.memcg", script, &mut printed, &mut said);
-    let status = status_of(ran, &mut said);
-    assert_eq!(rt; str::from_utf8(&said), Ok(err), "standard error");
-    assert_eq!(rt; str::from_utf8(&printed), Ok(out), "standard output");
-    assert_eq!(rt; status, 0, "status");
+    ends(rt, options, script, out, err, 0);
 }
 
 #[test]
@@ -207,24 +229,19 @@ fn all_answers_are_passed_on_at_the_end(rt: HostRuntime) {
         };
         let mut err = Vec::new(alloc);
         let script = OVER_LIMIT.as_bytes();
-        let ran = run_script(
-            alloc,
-            Options::default(),
-            "a.memcg",
-            script,
-            &mut out,
-            &mut err,
-        );
-        assert_eq!(rt; ran.is_ok(), writes == 4, "{writes} writes");
-        assert!(rt; err.is_empty(), "{writes} writes");
+        let options = Options::default();
+        let ran = run_script(alloc, options, "a.memcg", script, &mut out, &mut err);
         let KeepsBack {
             kept,
             writes: _,
             passed_on,
         } = out;
-        assert!(rt; passed_on, "{writes} writes");
         let lines = kept.iter().filter(|byte| **byte == b'\n').count();
-        assert_eq!(rt; lines, writes, "{writes} writes");
+        assert_eq!(rt;
+            (ran.is_ok(), err.len(), passed_on, lines),
+            (writes == 4, 0, true, writes),
+            "{writes} writes"
+        );
     }
 }
 
@@ -248,14 +265,9 @@ fn a_terminal_sees_how_many_lines_are_done(rt: HostRuntime) {
     writes(&rt, options, "", "", "reading the script\r\u{1b}[K");
 }
 
-// Elsewhere a line says so at the first answer after each 10,000 lines.
-#[test]
-fn lines_say_how_many_lines_are_done(rt: HostRuntime) -> Result<(), Fail> {
-    let options = Options {
-        progress_lines: true,
-        ..Options::default()
-    };
-    let mut script = String::new(rt.alloc());
+/// A script of 25,001 lines, of which line 10,000 prints.
+fn long(alloc: Global) -> Result<String, AllocError> {
+    let mut script = String::new(alloc);
     script.push_str("group /a\n")?;
     for number in 2..25_000 {
         script.push_str(if number == 10_000 {
@@ -265,58 +277,58 @@ fn lines_say_how_many_lines_are_done(rt: HostRuntime) -> Result<(), Fail> {
         })?;
     }
     script.push_str("group /b\ngroup /c\n")?;
+    Ok(script)
+}
+
+// Elsewhere a line says so at the first answer after each 10,000 lines.
+#[test]
+fn lines_say_how_many_lines_are_done(rt: HostRuntime) {
+    let options = Options {
+        progress_lines: true,
+        ..Options::default()
+    };
+    let script = long(rt.alloc()).expect(&rt, "no memory");
     let err = "progress: line 10000 of 25001\nprogress: line 25000 of 25001\n";
-    writes(&rt, options, script.as_str(), "0\n", err);
+    writes(&rt, options, &script, "0\n", err);
     writes(&rt, options, "group /a\ncat /a memory.current\n", "0\n", "");
-    Ok(())
 }
 
 // If a run is cut short, it stays as a line of its own, and so does what is said of it.
 #[test]
 fn a_terminal_sees_how_many_lines_were_done(rt: HostRuntime) {
-    let alloc = rt.alloc();
     let options = Options {
         progress: true,
         strict: true,
         ..Options::default()
     };
-    let mut out = Vec::new(alloc);
-    let mut err = Vec::new(alloc);
-    let script = b"group /a\nrmdir /b\ngroup /c\n";
-    let ran = run_script(alloc, options, "a.memcg", script, &mut out, &mut err);
-    assert_eq!(rt; status_of(ran, &mut err), 1);
-    assert_eq!(rt; str::from_utf8(&out), Ok("error ENOENT\n"));
-    let wanted =
+    let script = "group /a\nrmdir /b\ngroup /c\n";
+    let err =
         "reading the script\r\u{1b}[K\r1 of 3 lines\r\u{1b}[K2 of 3 lines\na.memcg:2: rmdir /b: ENOENT, there is no group /b\n";
-    assert_eq!(rt; str::from_utf8(&err), Ok(wanted));
+    ends(&rt, options, script, "error ENOENT\n", err, 1);
     // A script with a fault is not run.
-    let mut err = Vec::new(alloc);
-    let ran = run_script(alloc, options, "a.memcg", b"foo\n", &mut out, &mut err);
-    assert_eq!(rt; status_of(ran, &mut err), 1);
-    let wanted = "reading the script\r\u{1b}[Ka.memcg:1: unknown word\n";
-    assert_eq!(rt; str::from_utf8(&err), Ok(wanted));
+    let err = "reading the script\r\u{1b}[Ka.memcg:1: unknown word\n";
+    ends(&rt, options, "foo\n", "", err, 1);
 }
 
 #[test]
 fn a_run_that_is_cut_short_says_how_far_it_came(rt: HostRuntime) {
-    let alloc = rt.alloc();
     let options = Options {
         summary: true,
         ..Options::default()
     };
     let mut out = Limited {
-        kept: Vec::new(alloc),
+        kept: Vec::new(rt.alloc()),
         writes: 2,
     };
-    let mut err = Vec::new(alloc);
-    let script = OVER_LIMIT.as_bytes();
-    let ran = run_script(alloc, options, "a.memcg", script, &mut out, &mut err);
-    assert_eq!(rt; status_of(ran, &mut err), 1);
+    let mut err = Vec::new(rt.alloc());
+    let found = status(rt.alloc(), options, OVER_LIMIT, &mut out, &mut err);
     let Limited { kept, writes: _ } = out;
-    assert_eq!(rt; str::from_utf8(&kept), Ok("killed 1\n1 killed\n"));
     let wanted =
         "lines: 6\nkills: 1\nrefused: 0\nunfinished: 0\nagings: 0\ngreatest memory.current of /a: 4096\nthe answers can't be written: no storage space\n";
-    assert_eq!(rt; str::from_utf8(&err), Ok(wanted));
+    assert_eq!(rt;
+        (found, str::from_utf8(&kept), str::from_utf8(&err)),
+        (1, Ok("killed 1\n1 killed\n"), Ok(wanted))
+    );
 }
 
 // Notes the order in which it and another are written to. It passes on at once what it takes.
@@ -355,11 +367,12 @@ fn why_a_line_is_refused_is_told_behind_its_answer(rt: HostRuntime) {
         writes: 0,
     };
     // If the reason can't be written, the run continues.
-    let script = b"group /a\ncat /a memory.max\nrmdir /b\ncat /a memory.min\n";
-    let ran = run_script(alloc, options, "a.memcg", script, &mut out, &mut err);
-    assert!(rt; ran.is_ok());
+    let script = "group /a\ncat /a memory.max\nrmdir /b\ncat /a memory.min\n";
+    let found = status(alloc, options, script, &mut out, &mut err);
     let Limited { kept, writes: _ } = err;
-    assert!(rt; kept.is_empty());
     let Noted { all: _, kept: _ } = out;
-    assert_eq!(rt; str::from_utf8(&passed_on), Ok("max\nerror ENOENT\n0\n"));
+    assert_eq!(rt;
+        (found, kept.len(), str::from_utf8(&passed_on)),
+        (0, 0, Ok("max\nerror ENOENT\n0\n"))
+    );
 }
