@@ -24,6 +24,10 @@ use Rattle.expansion.specs.Standings.{after_entry, after_rest}
 use Rattle.expansion.specs.Together.{PlacedNow, MemberNow, TogetherNow, list_of, next_of, next_entry, member_or, taken_if_left, added_some}
 use Rattle.expansion.specs.Walk.{Told, Out, Ran, Blocks, Gathered, Ending, Ended, Failed, Unsaid, done, failed, unsaid, onto, followed, tried, out_of, list_from, if_whole, lists_whole, merged, blocks_of, kept, rounds_gathered, round_gathered, gathered, if_no_until, rounds_walked, round_walked, walked, item_count, item_at, stands, member_for, lists_gathered, noted, noted_all, together_inside}
 
+-- what is known at the last item
+abbrev pub known : Expansion → SceneNow
+known x = x.scene
+
 -- ---- blocks at work
 
 -- the lines from one place to before another, with their blocks

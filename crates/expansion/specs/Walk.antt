@@ -46,6 +46,12 @@ pub data Ending : Type 0 where
   Failed : Fault → Ending
   Unsaid : Ending
 
+-- what a scenario stands for comes to its end: no fault ends it, and no list with `until` begins, of which nothing is said
+abbrev pub ends : Ending → Bool
+ends (Ended s) = true
+ends (Failed f) = false
+ends Unsaid = false
+
 pub record Ran : Type 0 where
   pub outs : List Out
   pub ending : Ending

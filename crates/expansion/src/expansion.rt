@@ -1,14 +1,17 @@
 //! The entries that a scenario stands for, one after the other.
 
-ghost use Rattle.std.specs.Prelude.{◌≡◌, ◌<◌, ◌≤◌, ◌+◌, ◌-◌, ◌^◌, ◌||◌, true, not, [], ◌∷◌, ◌++◌, List, length, is_some, option_copied, option_map, min, None, Some, Ok, IfOk, OnOk, IfSome, if◌then◌else◌};
+ghost use Rattle.std.specs.Prelude.{ℕ, ◌≡◌, ◌<◌, ◌≤◌, ◌+◌, ◌-◌, ◌^◌, ◌||◌, true, not, [], ◌∷◌, ◌++◌, List, length, is_some, option_copied, option_map, min, None, Some, Ok, IfOk, OnOk, IfSome, if◌then◌else◌};
 ghost use Rattle.scenario_words.specs.Faults.{Gives, GivesAlways, as_is};
+ghost use Rattle.scenario_words.specs.Header.{machine_of};
 ghost use Rattle.scenarios.specs.Lines.{opens_block};
+ghost use Rattle.scenario_lines.specs.HeaderLines.{header_read};
 ghost use Rattle.scenario_lines.specs.LineLists.{line_lists, may_be_refused};
+ghost use Rattle.scenario_lines.specs.Scene.{at_first};
 ghost use Rattle.expansion.specs.Frames.{FrameNow, repeated, named_round};
 ghost use Rattle.expansion.specs.Standings.{after_entry, after_rest};
 ghost use Rattle.expansion.specs.Together.{PlacedNow, TogetherNow, list_of};
 ghost use Rattle.expansion.specs.Walk.{expanded, Gathered, item_count, item_at, stands, placed_by, lists_gathered};
-ghost use Rattle.expansion.specs.ToCome.{is_quiet, still, is_said, Steps, Comes, Begins, Works, IsIdle, from_frame, told_last, told_of, waits, item_before, line_item, line_in, one_told, none_told, IsTurnOf, one_turn, repeats, gathering, round_ended, opened_in, with_repeat, with_together, one_gathered, added_in, lists_in, line_gathered, line_queued};
+ghost use Rattle.expansion.specs.ToCome.{known, is_quiet, still, is_said, Steps, Comes, Begins, Works, IsIdle, from_frame, told_last, told_of, waits, item_before, line_item, line_in, one_told, none_told, IsTurnOf, one_turn, repeats, gathering, round_ended, opened_in, with_repeat, with_together, one_gathered, added_in, lists_in, line_gathered, line_queued};
 
 use crate::frames::{Block, Frame};
 use crate::together::{Placed, Together, Turn, leave_behind, leave_one, leave_rest};
@@ -132,6 +135,7 @@ impl<'p> Expansion<'p> {
         cuts: Cuts,
     ) -> Result<Expansion<'p>, ExpandError>
         ensures begins { Begins (expanded scenario.now.lines.items settings.items) result }
+        ensures header { IfOk result (λ x. (count : ℕ) × (header_read (at_first settings.items) scenario.now.lines.items ≡ Ok (count, known x))) }
     {
         let mut scene = Scene::new(alloc, settings);
         let lines = scenario.lines.as_slice();
@@ -162,15 +166,21 @@ impl<'p> Expansion<'p> {
         })
     }
 
-    pub fn header(&self) -> &Header {
+    pub fn header(&self) -> &Header
+        ensures { machine_of result.now ≡ (known self.now).machine }
+    {
         &self.scene.header
     }
 
-    pub fn names(&self) -> &Names {
+    pub fn names(&self) -> &Names
+        ensures { result.now ≡ (known self.now).names }
+    {
         &self.scene.names
     }
 
-    pub fn scene(&self) -> &Scene {
+    pub fn scene(&self) -> &Scene
+        ensures { result.now ≡ known self.now }
+    {
         &self.scene
     }
 
@@ -260,8 +270,10 @@ impl<'p> Expansion<'p> {
         }
     }
 
-    /// The condition holds: no further entry of the list with `until` comes.
-    pub fn cut(&mut self) {
+    /// The condition holds: no further entry of the list with `until` comes. If no such list is at work, nothing changes.
+    pub fn cut(&mut self)
+        ensures same { is_said (still self.old) ≡ true → still self.new ≡ still self.old }
+    {
         if let Some(open) = &mut self.open {
             open.left = Some(0);
         }

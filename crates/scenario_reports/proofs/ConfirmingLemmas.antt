@@ -9,11 +9,11 @@ use Rattle.scenario_lines.specs.HeaderLines.{header_read}
 use Rattle.scenario_lines.specs.Scene.{SceneNow, at_first}
 use Rattle.expansion.specs.declared.expansion.Item.{Item}
 use Rattle.expansion.specs.declared.expansion.Item.TheVariants as item
-use Rattle.expansion.specs.Walk.{Told, Out, Ending, Ended, Failed, Unsaid, Ran, out_of, onto, expanded}
+use Rattle.expansion.specs.Walk.{Told, Out, Ending, Ended, Failed, Unsaid, Ran, out_of, onto, expanded, ends}
 use Rattle.expansion.specs.ToCome.{is_said_by, is_said, Comes}
 use Rattle.scenario_reports.specs.declared.confirming.Seen.{Seen}
 use Rattle.scenario_reports.specs.declared.confirming.Seen.TheVariants as seen
-use Rattle.scenario_reports.specs.Faulty.{IsOdd, OddIn, HasOdd, ends, AreFaulty}
+use Rattle.scenario_reports.specs.Faulty.{IsOdd, OddIn, HasOdd, AreFaulty}
 use Rattle.scenario_reports.specs.Confirming.{IsStop, Stops, Sees, SeesItem, IsLeft}
 use Rattle.scenario_reports.proofs.PlainLemmas.{is_plain, ArePlain, plain_at, expanded_plain}
 

@@ -1,3 +1,4 @@
+mod NoteLemmas
 mod ConfirmingLemmas
 mod PlainLemmas
 mod TaskLemmas

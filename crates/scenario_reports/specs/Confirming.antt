@@ -3,11 +3,11 @@ use Rattle.std.specs.Prelude.{◌≡◌, true, false, ◌⊎◌, List, [], ◌�
 use Rattle.scenario_lines.specs.Scene.{SceneNow}
 use Rattle.expansion.specs.declared.expansion.Item.{Item}
 use Rattle.expansion.specs.declared.expansion.Item.TheVariants as item
-use Rattle.expansion.specs.Walk.{Out, Ran, onto}
+use Rattle.expansion.specs.Walk.{Out, Ran, ends, onto}
 use Rattle.expansion.specs.ToCome.{is_said}
 use Rattle.scenario_reports.specs.declared.confirming.Seen.{Seen}
 use Rattle.scenario_reports.specs.declared.confirming.Seen.TheVariants as seen
-use Rattle.scenario_reports.specs.Faulty.{IsNoLine, ends}
+use Rattle.scenario_machines.specs.RawLines.{IsNoLine}
 
 -- the walk stops at an item: a list with `until` begins, or a script can't have the line
 abbrev pub IsStop : SceneNow → Item → Type 0

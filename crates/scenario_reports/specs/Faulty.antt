@@ -1,38 +1,19 @@
 -- Scenarios that can't be run or expanded to their end.
-use Rattle.std.specs.Prelude.{◌≡◌, ℕ, Bool, true, false, ◌⊎◌, List, ◌∷◌, ◌++◌, codes, decimal, flat_map, Result, Ok, Err}
-use Rattle.std.specs.Str.Lines.{lines}
-use Rattle.scripts.specs.declared.fault.Cause.{Cause}
-use Rattle.scripts.specs.declared.mode.Mode.TheVariants.{Schedule}
-use Rattle.scripts.specs.Script.{IsFirstFault}
+use Rattle.std.specs.Prelude.{◌≡◌, ℕ, Bool, true, false, ◌⊎◌, List, ◌∷◌, ◌++◌, Result, Ok, Err}
 use Rattle.scenarios.specs.declared.fault.Fault.{Fault as TextFault}
 use Rattle.scenarios.specs.Holes.{NamedText}
 use Rattle.scenarios.specs.Lines.{TextLine}
 use Rattle.scenarios.specs.Scenario.{scenario_of}
 use Rattle.scenario_words.specs.declared.fault.Fault.{Fault}
-use Rattle.scenario_words.specs.declared.header.FileSize.{FileSize}
-use Rattle.scenario_words.specs.Header.{Machine}
-use Rattle.scenario_words.specs.Names.{script_name}
+use Rattle.scenario_machines.specs.RawLines.{IsNoLine}
 use Rattle.scenario_lines.specs.HeaderLines.{header_read}
 use Rattle.scenario_lines.specs.Scene.{SceneNow, at_first}
 use Rattle.scenario_faults.specs.Settings.{settings_of, has_unnamed}
 use Rattle.expansion.specs.declared.expansion.Item.{Item}
 use Rattle.expansion.specs.declared.expansion.Item.TheVariants as item
-use Rattle.expansion.specs.Walk.{Out, Ending, Ended, Failed, Unsaid, expanded}
+use Rattle.expansion.specs.Walk.{Out, ends, expanded}
 
 -- ---- lines `raw`
-
--- `file NAME PAGES`, by the script's name of the file
-abbrev pub file_line : List (List ℕ) → FileSize → List ℕ
-file_line names f = codes "file " ++ script_name names f.name ++ codes " " ++ decimal f.pages ++ codes "\n"
-
--- a script of one line, for a machine of this size and with these files
-abbrev pub one_line : Machine → List (List ℕ) → List ℕ → List ℕ
-one_line m names line =
-    codes "frames " ++ decimal m.frames ++ codes "\n" ++ (codes "swap " ++ decimal m.swap ++ codes "\n") ++ flat_map (file_line names) m.files ++ (line ++ codes "\n")
-
--- a script can't have this line: a script of it alone is faulty
-abbrev pub IsNoLine : Machine → List (List ℕ) → List ℕ → Type 0
-IsNoLine m names line = (number : ℕ) × (cause : Cause) × IsFirstFault Schedule (lines (one_line m names line)) number cause
 
 -- an item is a line `raw` that a script can't have
 abbrev pub IsOdd : SceneNow → Item → Type 0
@@ -55,12 +36,6 @@ HasOdd (Ok p) outs = OddIn p.1 outs
 HasOdd (Err f) outs = ⊥
 
 -- ---- faulty scenarios
-
--- what a scenario stands for comes to its end: no fault ends it, and no list with `until` begins, of which nothing is said
-abbrev pub ends : Ending → Bool
-ends (Ended s) = true
-ends (Failed f) = false
-ends Unsaid = false
 
 -- lines are faulty with these words in place of those of `let` lines
 abbrev pub AreFaulty : List TextLine → List NamedText → Type 0

@@ -1,11 +1,11 @@
 //! What is known of a scenario before it is run.
 
 use crate::asked::{Asked, Prints};
-use crate::machines::schedule_of;
 use expansion::expansion::{Cuts, Expansion, Item};
 use scenario_faults::{Problem, problem_of, settings_of};
 use scenario_lines::rounded::Rounded;
 use scenario_lines::scene::Scene;
+use scenario_machines::schedule_of;
 use scenario_pictures::Object;
 use scenario_words::fault::{Cause, fault_at};
 use scenarios::scenario::Scenario;

@@ -6,13 +6,14 @@ ghost use Rattle.scenario_faults.specs.Failures.{failure_of};
 ghost use Rattle.scenario_faults.specs.Settings.{settings_of};
 ghost use Rattle.scenario_faults.specs.declared.fault.Failure.TheVariants as failure;
 ghost use Rattle.expansion.specs.ToCome.{still};
-ghost use Rattle.scenario_reports.specs.Faulty.{IsNoLine, AreFaulty};
+ghost use Rattle.scenario_machines.specs.RawLines.{IsNoLine};
+ghost use Rattle.scenario_reports.specs.Faulty.{AreFaulty};
 ghost use Rattle.scenario_reports.specs.Confirming.{IsStop, Stops, Sees, SeesItem};
 
-use crate::machines::schedule_of;
 use expansion::expansion::{Cuts, Expansion, Item};
 use scenario_faults::{Problem, settings_of};
 use scenario_lines::scene::Scene;
+use scenario_machines::schedule_of;
 use scenario_words::fault::ExpandError;
 use scenarios::scenario::Scenario;
 use std::alloc::{AllocError, Global};

@@ -10,7 +10,6 @@ pub mod choice;
 pub mod commands;
 pub mod confirming;
 pub mod levels;
-pub mod machines;
 pub mod notes;
 pub mod pace;
 pub mod refusals;

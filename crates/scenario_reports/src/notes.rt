@@ -1,5 +1,9 @@
 //! Words of lines that ask and expect.
 
+ghost use Rattle.std.specs.Prelude.{◌≡◌, ◌++◌, [], true, encode_utf8, IfOk, OnOk};
+ghost use Rattle.std.specs.String.{string_bytes};
+ghost use Rattle.scenario_lines.specs.Joined.{joined};
+
 use scenario_words::word::Filled;
 use std::alloc::{AllocError, Global};
 
@@ -13,7 +17,9 @@ struct Reading {
 }
 
 impl Reading {
-    fn new(alloc: Global) -> Reading {
+    fn new(alloc: Global) -> Reading
+        ensures { string_bytes result.source ≡ [] }
+    {
         Reading {
             source: String::new(alloc),
             text: String::new(alloc),
@@ -22,7 +28,9 @@ impl Reading {
         }
     }
 
-    fn add(&mut self, character: char) -> Result<(), AllocError> {
+    fn add(&mut self, character: char) -> Result<(), AllocError>
+        ensures { OnOk result (string_bytes self.new.source ≡ string_bytes self.old.source ++ encode_utf8 character) }
+    {
         self.source.push(character)?;
         if character == '"' {
             self.quoted = true;
@@ -32,7 +40,9 @@ impl Reading {
         self.text.push(character)
     }
 
-    fn whole(self) -> Filled {
+    fn whole(self) -> Filled
+        ensures { result.source ≡ string_bytes self.source }
+    {
         let Reading {
             source,
             text,
@@ -51,7 +61,9 @@ impl Reading {
 }
 
 /// The words of a line that is printed with a space between each two.
-pub fn words_of(alloc: Global, line: &str) -> Result<Vec<Filled>, AllocError> {
+pub fn words_of(alloc: Global, line: &str) -> Result<Vec<Filled>, AllocError>
+    ensures { IfOk result (λ words. joined words.items 0 true ≡ line.now) }
+{
     let mut words = Vec::new(alloc);
     let mut reading = Reading::new(alloc);
     for character in line.chars() {

@@ -1,1 +1,3 @@
 mod ReportLemmas
+mod MetLemmas
+mod NoteLemmas

@@ -1,11 +1,14 @@
 //! Expectations.
 
-ghost use Rattle.std.specs.Prelude.{◌≡◌, ◌&&◌};
+ghost use Rattle.std.specs.Prelude.{◌≡◌, true, IfOk};
+ghost use Rattle.expansion.specs.ToCome.{known};
+ghost use Rattle.simulation.specs.Met.{is_charge, is_path_at, JudgesCharge, IsJudged, JudgesNote};
 
 use crate::run::{Run, say};
 use block_store::MemDevice;
 use drafts::Draft;
-use driver::{Actor, Answer, Command, Stepper};
+use driver::{Answer, Command, Stepper};
+use expansion::expansion::Expansion;
 use machine::text::Text;
 use scenario_faults::Problem;
 use scenario_reports::asked::Prints;
@@ -14,6 +17,7 @@ use scenario_reports::refusals::add_words;
 use scenario_reports::verdicts::{
     Verdict, compare_count, judge_alive, judge_group, judge_killed, judge_moved, no_group,
 };
+use scenario_words::amount::PageSize;
 use scenario_words::paths::is_path;
 use scenario_words::word::{Filled, is_at};
 use std::alloc::AllocError;
@@ -31,81 +35,102 @@ fn number_in(text: &str, key: &str) -> Option<u64> {
     None
 }
 
+/// Whether an `expect` of a group is about what is charged to it.
+fn is_charge(words: &[Filled]) -> bool
+    ensures { result ≡ is_charge words.now }
+{
+    is_at(words, 2, "current") || is_at(words, 2, "anon") || is_at(words, 2, "file")
+}
+
+/// The event that an `expect` of a group counts, or an empty text.
+fn event_of(words: &[Filled]) -> &str {
+    match words.get(2) {
+        None => "",
+        Some(key) => key.text().strip_prefix("events.").unwrap_or(""),
+    }
+}
+
 impl<'p> Run<'p> {
-    /// A number of a group's `memory.events`, by its key. None if the machine has no such group.
-    fn events(
-        &mut self,
-        stepper: &mut Stepper<MemDevice>,
-        path: Text,
-        key: &str,
-    ) -> Result<Option<u64>, Problem> {
+    /// What is to be carried out before a note with these words is judged: `memory.events` is read for an `expect` of a
+    /// count.
+    pub fn asks(&self, expansion: &Expansion<'_>, text: &Text) -> Result<Option<Command>, Problem> {
+        let words = words_of(self.alloc, text.as_str())?;
+        let words = words.as_slice();
+        let Some(word) = words.get(1) else {
+            return Ok(None);
+        };
+        if !is_at(words, 0, "expect") || !is_path(word) || is_charge(words) {
+            return Ok(None);
+        }
+        let scene = expansion.scene();
+        let path = scene.script_path(&scene.group_below_root(word)?)?;
         let file = Text::new(String::from_str(self.alloc, "memory.events")?);
-        let command = Command::Cat { path, file };
-        self.whole(stepper, Actor::Control, command)?;
+        Ok(Some(Command::Cat { path, file }))
+    }
+
+    /// The number of a key of the group's `memory.events`, which was read. `None` if the machine has no such group.
+    fn count_in_events(&self, key: &str) -> Option<u64> {
         let mut found = None;
         for reply in self.watch.answers() {
             if let Answer::Text(text) = &reply.answer {
                 found = number_in(text.as_str(), key);
             }
         }
-        self.watch.clear();
-        Ok(found)
+        found
     }
 
-    /// What an `expect` of a group finds.
+    /// What an `expect` of a group finds. The group is the second word.
     fn judge_path(
-        &mut self,
-        stepper: &mut Stepper<MemDevice>,
+        &self,
+        expansion: &Expansion<'_>,
+        stepper: &Stepper<MemDevice>,
+        page: PageSize,
         words: &[Filled],
         word: &Filled,
-    ) -> Result<Verdict, Problem> {
+    ) -> Result<Verdict, Problem>
+        ensures met { is_charge words.now ≡ true → IfOk result (λ verdict. JudgesCharge page.bytes (known expansion.now) word.now words.now stepper.now.past.state verdict.met) }
+    {
         let alloc = self.alloc;
-        let scene = self.expansion.scene();
-        let page = scene.page();
-        let path = scene.script_path(&scene.group_below_root(word)?)?;
-        let key = match words.get(2) {
-            None => "",
-            Some(key) => key.text(),
-        };
-        let Some(event) = key.strip_prefix("events.") else {
-            return Ok(judge_group(alloc, page, stepper.book(), path.as_str(), words)?);
-        };
-        match self.events(stepper, path, event)? {
+        if is_charge(words) {
+            let scene = expansion.scene();
+            let path = scene.script_path(&scene.group_below_root(word)?)?;
+            let book = stepper.book();
+            return Ok(judge_group(alloc, page, book, path.as_str(), words)?);
+        }
+        match self.count_in_events(event_of(words)) {
             None => Ok(no_group(alloc)?),
             Some(count) => Ok(compare_count(alloc, words, 3, count)?),
         }
     }
 
-    /// What an `expect` finds.
-    fn judge(
+    /// What an `expect` finds that is not of a group.
+    fn judge_other(
         &mut self,
-        stepper: &mut Stepper<MemDevice>,
+        expansion: &Expansion<'_>,
+        stepper: &Stepper<MemDevice>,
         words: &[Filled],
-    ) -> Result<Verdict, Problem> {
+    ) -> Result<Verdict, AllocError> {
         let alloc = self.alloc;
-        let Some(word) = words.get(1) else {
-            return Ok(no_group(alloc)?);
-        };
-        if is_path(word) {
-            return self.judge_path(stepper, words, word);
-        }
-        if word.is("in") || word.is("out") || word.is("dropped") {
+        let scene = expansion.scene();
+        if is_at(words, 1, "in") || is_at(words, 1, "out") || is_at(words, 1, "dropped") {
             let moved = self.moved(stepper).since(self.phase_moved);
-            let page = self.expansion.scene().page();
-            return Ok(judge_moved(alloc, page, moved, words)?);
+            return judge_moved(alloc, scene.page(), moved, words);
         }
-        let scene = self.expansion.scene();
-        if word.is("alive") {
-            return Ok(judge_alive(alloc, scene, &self.tasks, words)?);
+        if is_at(words, 1, "alive") {
+            return judge_alive(alloc, scene, &self.tasks, words);
         }
-        Ok(judge_killed(alloc, scene, &self.tasks, words)?)
+        judge_killed(alloc, scene, &self.tasks, words)
     }
 
     /// What an `expect refused` finds, and the place of the first refusal if it is met.
-    fn judge_refused(&mut self, words: &[Filled]) -> Result<(Verdict, String), AllocError> {
+    fn judge_refused(
+        &mut self,
+        expansion: &Expansion<'_>,
+        words: &[Filled],
+    ) -> Result<(Verdict, String), AllocError> {
         let alloc = self.alloc;
-        let line = self.expansion.line();
-        let rounds = self.expansion.rounds();
+        let line = expansion.line();
+        let rounds = expansion.rounds();
         let refused = self.refusals.words_of(alloc, line, rounds)?;
         let wanted = match words.get(2) {
             None => "",
@@ -138,8 +163,13 @@ impl<'p> Run<'p> {
     }
 
     /// The line of an expectation.
-    fn verdict_text(&self, words: &Text, verdict: &Verdict) -> Result<String, AllocError> {
-        let mut text = self.place();
+    fn verdict_text(
+        &self,
+        expansion: &Expansion<'_>,
+        words: &Text,
+        verdict: &Verdict,
+    ) -> Result<String, AllocError> {
+        let mut text = self.place(expansion);
         text.text("  ");
         text.text(words.as_str());
         text.text(": ");
@@ -155,62 +185,120 @@ impl<'p> Run<'p> {
 
     /// Tells whether an expectation is met.
     fn tell_verdict<O: Write>(
-        &mut self,
+        &self,
+        expansion: &Expansion<'_>,
         words: &Text,
         verdict: &Verdict,
         out: &mut O,
-    ) -> Result<(), Problem>
-        ensures { self.new.well ≡ (self.old.well && verdict.now.met) }
-    {
-        self.well = self.well && verdict.met;
+    ) -> Result<(), Problem> {
         match self.asked.prints {
             Prints::Report => {}
             Prints::Unmet if !verdict.met => {}
             Prints::Json => {
-                let bytes = self.expect_object(words, verdict)?;
+                let bytes = self.expect_object(expansion, words, verdict)?;
                 out.write_all(bytes.as_slice())?;
                 return Ok(());
             }
             Prints::Chart | Prints::Csv | Prints::Unmet => return Ok(()),
         }
-        let text = self.verdict_text(words, verdict)?;
+        let text = self.verdict_text(expansion, words, verdict)?;
         say(out, text.as_str())
     }
 
-    fn expect<O: Write>(
+    /// Judges an `expect refused`, and tells whether it is met. The result is the same.
+    fn expect_refused<O: Write>(
         &mut self,
-        stepper: &mut Stepper<MemDevice>,
+        expansion: &Expansion<'_>,
         text: &Text,
         words: &[Filled],
         out: &mut O,
-    ) -> Result<(), Problem> {
-        self.judged = self.judged.saturating_add(1);
-        if !is_at(words, 1, "refused") {
-            let verdict = self.judge(stepper, words)?;
-            return self.tell_verdict(text, &verdict, out);
-        }
-        let (verdict, place) = self.judge_refused(words)?;
+    ) -> Result<bool, Problem> {
+        let (verdict, place) = self.judge_refused(expansion, words)?;
         if verdict.met && self.asked.prints == Prints::Report {
-            return say(out, place.as_str());
+            say(out, place.as_str())?;
+        } else {
+            self.tell_verdict(expansion, text, &verdict, out)?;
         }
-        self.tell_verdict(text, &verdict, out)
+        Ok(verdict.met)
     }
 
-    /// A `show`, a `mark` or an `expect`.
+    /// Judges an `expect` of a group, and tells whether it is met. The result is the same.
+    fn expect_of_group<O: Write>(
+        &mut self,
+        expansion: &Expansion<'_>,
+        stepper: &Stepper<MemDevice>,
+        page: PageSize,
+        text: &Text,
+        words: &[Filled],
+        word: &Filled,
+        out: &mut O,
+    ) -> Result<bool, Problem>
+        ensures met { is_charge words.now ≡ true → IfOk result (λ met. JudgesCharge page.bytes (known expansion.now) word.now words.now stepper.now.past.state met) }
+    {
+        let verdict = self.judge_path(expansion, stepper, page, words, word)?;
+        self.watch.clear();
+        self.tell_verdict(expansion, text, &verdict, out)?;
+        Ok(verdict.met)
+    }
+
+    /// The same of any other `expect`.
+    fn expect_other<O: Write>(
+        &mut self,
+        expansion: &Expansion<'_>,
+        stepper: &Stepper<MemDevice>,
+        text: &Text,
+        words: &[Filled],
+        out: &mut O,
+    ) -> Result<bool, Problem> {
+        if is_at(words, 1, "refused") {
+            return self.expect_refused(expansion, text, words, out);
+        }
+        let verdict = self.judge_other(expansion, stepper, words)?;
+        self.tell_verdict(expansion, text, &verdict, out)?;
+        Ok(verdict.met)
+    }
+
+    /// Judges an `expect`, and tells whether it is met. The result is the same.
+    fn expect<O: Write>(
+        &mut self,
+        expansion: &Expansion<'_>,
+        stepper: &Stepper<MemDevice>,
+        page: PageSize,
+        text: &Text,
+        words: &[Filled],
+        out: &mut O,
+    ) -> Result<bool, Problem>
+        ensures met { is_path_at words.now ≡ true → is_charge words.now ≡ true → IfOk result (λ met. IsJudged page.bytes (known expansion.now) words.now stepper.now.past.state met) }
+    {
+        match words.get(1) {
+            Some(word) if is_path(word) => {
+                self.expect_of_group(expansion, stepper, page, text, words, word, out)
+            }
+            _ => self.expect_other(expansion, stepper, text, words, out),
+        }
+    }
+
+    /// An `expect`, a `show` or a `mark`. Of an `expect` the result says whether it is met.
     pub fn note<O: Write>(
         &mut self,
-        stepper: &mut Stepper<MemDevice>,
+        expansion: &Expansion<'_>,
+        stepper: &Stepper<MemDevice>,
+        page: PageSize,
         text: &Text,
         out: &mut O,
-    ) -> Result<(), Problem> {
+    ) -> Result<Option<bool>, Problem>
+        ensures judged { IfOk result (λ met. JudgesNote page.bytes (known expansion.now) text.now stepper.now.past.state met) }
+    {
         let words = words_of(self.alloc, text.as_str())?;
         let words = words.as_slice();
-        if is_at(words, 0, "show") {
-            self.show(stepper, words, out)
-        } else if is_at(words, 0, "mark") {
-            self.mark(stepper, words, out)
+        if is_at(words, 0, "expect") {
+            Ok(Some(self.expect(expansion, stepper, page, text, words, out)?))
+        } else if is_at(words, 0, "show") {
+            self.show(expansion, stepper, words, out)?;
+            Ok(None)
         } else {
-            self.expect(stepper, text, words, out)
+            self.mark(expansion, stepper, words, out)?;
+            Ok(None)
         }
     }
 }

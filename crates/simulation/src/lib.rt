@@ -12,6 +12,7 @@ mod records;
 mod rows;
 mod run;
 mod simulating;
+mod simulation;
 mod summary;
 mod tables;
 mod varying;

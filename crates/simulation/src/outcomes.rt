@@ -1,9 +1,10 @@
 //! What is printed of an entry.
 
-use crate::run::{Course, Run, say};
+use crate::run::{Run, say};
 use block_store::MemDevice;
 use drafts::Draft;
 use driver::{Stepper, Word};
+use expansion::expansion::Expansion;
 use scenario_faults::Problem;
 use scenario_lines::burst::Condition;
 use scenario_pictures::{add_place, add_rounds};
@@ -19,10 +20,10 @@ pub const MOST_KILLS_TOLD: u64 = 20;
 
 impl<'p> Run<'p> {
     /// Begins a line with the place of the last item.
-    pub fn place(&self) -> Draft {
+    pub fn place(&self, expansion: &Expansion<'_>) -> Draft {
         let mut text = Draft::new(self.alloc);
-        let line = self.expansion.line();
-        let rounds = self.expansion.rounds();
+        let line = expansion.line();
+        let rounds = expansion.rounds();
         if self.asked.prints != Prints::Unmet {
             add_place(&mut text, line, rounds);
             return text;
@@ -37,24 +38,37 @@ impl<'p> Run<'p> {
     }
 
     /// Adds the words of the last entry. `task` is the task of an entry that is a task's.
-    fn add_entry(&self, text: &mut Draft, task: Option<u32>) -> Result<(), AllocError> {
-        let words = self.expansion.words()?;
-        add_line(text, self.expansion.scene(), words.as_str(), task);
+    fn add_entry(
+        &self,
+        expansion: &Expansion<'_>,
+        text: &mut Draft,
+        task: Option<u32>,
+    ) -> Result<(), AllocError> {
+        let words = expansion.words()?;
+        add_line(text, expansion.scene(), words.as_str(), task);
         Ok(())
     }
 
     /// The words of the last entry. `task` is the task of an entry that is a task's.
-    pub fn words(&self, task: Option<u32>) -> Result<String, AllocError> {
+    pub fn words(
+        &self,
+        expansion: &Expansion<'_>,
+        task: Option<u32>,
+    ) -> Result<String, AllocError> {
         let mut text = Draft::new(self.alloc);
-        self.add_entry(&mut text, task)?;
+        self.add_entry(expansion, &mut text, task)?;
         text.finish()
     }
 
     /// Begins a line with the place and the words of the last entry.
-    fn place_and_words(&self, task: Option<u32>) -> Result<Draft, AllocError> {
-        let mut text = self.place();
+    fn place_and_words(
+        &self,
+        expansion: &Expansion<'_>,
+        task: Option<u32>,
+    ) -> Result<Draft, AllocError> {
+        let mut text = self.place(expansion);
         text.text("  ");
-        self.add_entry(&mut text, task)?;
+        self.add_entry(expansion, &mut text, task)?;
         text.text(": ");
         Ok(text)
     }
@@ -80,7 +94,13 @@ impl<'p> Run<'p> {
     }
 
     /// Adds who died with the victim.
-    fn add_others(&self, text: &mut Draft, place: usize, victims: &[u32]) {
+    fn add_others(
+        &self,
+        expansion: &Expansion<'_>,
+        text: &mut Draft,
+        place: usize,
+        victims: &[u32],
+    ) {
         let others = victims.get(1..).unwrap_or(&[]);
         if others.is_empty() {
             return;
@@ -92,25 +112,25 @@ impl<'p> Run<'p> {
             return;
         };
         text.text(", and with it all of ");
-        add_true_path(text, self.expansion.names(), self.watch.path_at(group));
+        add_true_path(text, expansion.names(), self.watch.path_at(group));
         text.text(": ");
-        add_tasks(text, self.expansion.scene(), others);
+        add_tasks(text, expansion.scene(), others);
     }
 
     /// Adds who was killed, and why.
-    fn add_kill(&self, text: &mut Draft, place: usize, victims: &[u32]) {
-        let scene = self.expansion.scene();
+    fn add_kill(&self, expansion: &Expansion<'_>, text: &mut Draft, place: usize, victims: &[u32]) {
+        let scene = expansion.scene();
         if let Some(victim) = victims.first() {
             add_task(text, scene, *victim);
         }
         text.text(" is killed");
-        self.add_others(text, place, victims);
+        self.add_others(expansion, text, place, victims);
         if let Some(doomed) = self.watch.kill_at(place) {
             text.text(" (");
             add_reason(
                 text,
                 scene,
-                self.expansion.names(),
+                expansion.names(),
                 scene.page(),
                 self.watch.paths(),
                 doomed,
@@ -123,18 +143,20 @@ impl<'p> Run<'p> {
     /// The line of a kill.
     fn kill_text(
         &self,
+        expansion: &Expansion<'_>,
         place: usize,
         victims: &[u32],
         task: Option<u32>,
     ) -> Result<String, AllocError> {
-        let mut text = self.place_and_words(task)?;
-        self.add_kill(&mut text, place, victims);
+        let mut text = self.place_and_words(expansion, task)?;
+        self.add_kill(expansion, &mut text, place, victims);
         text.finish()
     }
 
     /// Tells the kills of an entry, and counts the lines after a task's death.
     fn tell_kills<O: Write>(
         &mut self,
+        expansion: &Expansion<'_>,
         said: &Said,
         task: Option<u32>,
         out: &mut O,
@@ -145,7 +167,7 @@ impl<'p> Run<'p> {
         for (place, kill) in said.kills.iter().enumerate() {
             let victims = self.bury(place, *kill)?;
             self.kills = self.kills.saturating_add(1);
-            self.tell_kill(place, victims.as_slice(), task, out)?;
+            self.tell_kill(expansion, place, victims.as_slice(), task, out)?;
         }
         Ok(())
     }
@@ -153,6 +175,7 @@ impl<'p> Run<'p> {
     /// Prints a kill, and notes it for the next row.
     fn tell_kill<O: Write>(
         &mut self,
+        expansion: &Expansion<'_>,
         place: usize,
         victims: &[u32],
         task: Option<u32>,
@@ -161,61 +184,60 @@ impl<'p> Run<'p> {
         match self.asked.prints {
             Prints::Report => {
                 if self.kills <= MOST_KILLS_TOLD {
-                    let text = self.kill_text(place, victims, task)?;
+                    let text = self.kill_text(expansion, place, victims, task)?;
                     say(out, text.as_str())?;
                 }
                 return Ok(());
             }
             Prints::Json => {
-                let bytes = self.kill_object(place, victims, task)?;
+                let bytes = self.kill_object(expansion, place, victims, task)?;
                 out.write_all(bytes.as_slice())?;
             }
             Prints::Unmet => return Ok(()),
             Prints::Chart | Prints::Csv => {}
         }
         for victim in victims {
-            let name = self.task_name(*victim)?;
+            let name = self.task_name(expansion, *victim)?;
             self.pace.add_death(name)?;
         }
         Ok(())
     }
 
-    /// Tells that the last entry was refused, unless that is expected.
+    /// Tells that the last entry was refused, unless that is expected. The result says whether nothing was refused but
+    /// what is expected.
     fn tell_refusal<O: Write>(
         &mut self,
+        expansion: &Expansion<'_>,
         said: &Said,
         task: Option<u32>,
         out: &mut O,
-    ) -> Result<Course, Problem> {
+    ) -> Result<bool, Problem> {
         let words = said.refused.as_slice();
         if words.is_empty() {
-            return Ok(Course::GoesOn);
+            return Ok(true);
         }
-        let awaited = self.expansion.awaited()?;
-        let line = self.expansion.line();
-        let rounds = self.expansion.rounds();
+        let awaited = expansion.awaited()?;
+        let line = expansion.line();
+        let rounds = expansion.rounds();
         self.refusals
             .add(self.alloc, words, line, rounds, awaited.as_slice())?;
         let expected = are_expected(self.alloc, words, awaited.as_slice())?;
-        self.print_refusal(words, task, expected, out)?;
-        if expected {
-            return Ok(Course::GoesOn);
-        }
-        self.well = false;
-        if self.asked.go_on {
-            Ok(Course::GoesOn)
-        } else {
-            Ok(Course::Ends)
-        }
+        self.print_refusal(expansion, words, task, expected, out)?;
+        Ok(expected)
     }
 
     /// The line of a refusal.
-    fn refusal_text(&self, words: &[Word], task: Option<u32>) -> Result<String, AllocError> {
-        let mut text = self.place_and_words(task)?;
+    fn refusal_text(
+        &self,
+        expansion: &Expansion<'_>,
+        words: &[Word],
+        task: Option<u32>,
+    ) -> Result<String, AllocError> {
+        let mut text = self.place_and_words(expansion, task)?;
         text.text("refused with ");
         add_words(&mut text, words);
         if let (Some((actor, command)), [word]) = (&self.done, words) {
-            self.add_why(&mut text, *actor, command, *word)?;
+            self.add_why(expansion, &mut text, *actor, command, *word)?;
         }
         text.text("\n");
         text.finish()
@@ -224,6 +246,7 @@ impl<'p> Run<'p> {
     /// Prints a refusal. The report has an expected one at the line that expects it.
     fn print_refusal<O: Write>(
         &self,
+        expansion: &Expansion<'_>,
         words: &[Word],
         task: Option<u32>,
         expected: bool,
@@ -231,11 +254,11 @@ impl<'p> Run<'p> {
     ) -> Result<(), Problem> {
         match self.asked.prints {
             Prints::Report | Prints::Unmet if !expected => {
-                let text = self.refusal_text(words, task)?;
+                let text = self.refusal_text(expansion, words, task)?;
                 say(out, text.as_str())
             }
             Prints::Json => {
-                let bytes = self.refused_object(words, task, expected)?;
+                let bytes = self.refused_object(expansion, words, task, expected)?;
                 out.write_all(bytes.as_slice())?;
                 Ok(())
             }
@@ -243,33 +266,34 @@ impl<'p> Run<'p> {
         }
     }
 
-    /// Tells what came of the last entry.
-    pub fn tell<O: Write>(&mut self, task: Option<u32>, out: &mut O) -> Result<Course, Problem> {
+    /// Tells what came of the last entry. The result says whether nothing was refused but what is expected.
+    pub fn tell<O: Write>(
+        &mut self,
+        expansion: &Expansion<'_>,
+        task: Option<u32>,
+        out: &mut O,
+    ) -> Result<bool, Problem> {
         let said = self.said()?;
-        self.tell_kills(&said, task, out)?;
-        self.tell_refusal(&said, task, out)
+        self.tell_kills(expansion, &said, task, out)?;
+        self.tell_refusal(expansion, &said, task, out)
     }
 
     /// Whether the condition of the open list with `until` holds.
-    fn is_reached(&self, stepper: &Stepper<MemDevice>) -> Result<bool, Problem> {
-        match self.expansion.condition()? {
+    pub fn is_reached(
+        &self,
+        expansion: &Expansion<'_>,
+        stepper: &Stepper<MemDevice>,
+    ) -> Result<bool, Problem> {
+        match expansion.condition()? {
             None => Ok(false),
             Some(Condition::Killed(task)) => Ok(self.tasks.is_dead(task)),
             Some(Condition::Current { path, pages }) => {
-                let path = self.expansion.scene().script_path(&path)?;
+                let path = expansion.scene().script_path(&path)?;
                 Ok(match stepper.book().look(path.as_str()) {
                     None => false,
                     Some(look) => look.usage >= pages,
                 })
             }
         }
-    }
-
-    /// Cuts the open list with `until` if its condition holds.
-    pub fn cut(&mut self, stepper: &Stepper<MemDevice>) -> Result<(), Problem> {
-        if self.is_reached(stepper)? {
-            self.expansion.cut();
-        }
-        Ok(())
     }
 }

@@ -4,6 +4,7 @@ use crate::run::Run;
 use block_store::MemDevice;
 use drafts::Draft;
 use driver::{Stepper, Word};
+use expansion::expansion::Expansion;
 use machine::event::Cause;
 use machine::text::Text;
 use scenario_amounts::bytes_of;
@@ -28,29 +29,39 @@ fn name_of(cause: Cause) -> &'static str {
 
 impl<'p> Run<'p> {
     /// Begins an object with the place of the last item.
-    fn object(&self, record: &str) -> Object {
+    fn object(&self, expansion: &Expansion<'_>, record: &str) -> Object {
         let mut object = Object::new(self.alloc, record);
-        object.place(self.expansion.line(), self.expansion.rounds());
+        object.place(expansion.line(), expansion.rounds());
         object
     }
 
     /// The name of a task.
-    pub fn task_name(&self, task: u32) -> Result<String, AllocError> {
+    pub fn task_name(&self, expansion: &Expansion<'_>, task: u32) -> Result<String, AllocError> {
         let mut name = Draft::new(self.alloc);
-        add_task(&mut name, self.expansion.scene(), task);
+        add_task(&mut name, expansion.scene(), task);
         name.finish()
     }
 
     /// Adds the words of the last entry.
-    fn record_words(&self, object: &mut Object, task: Option<u32>) -> Result<(), AllocError> {
-        let words = self.words(task)?;
+    fn record_words(
+        &self,
+        expansion: &Expansion<'_>,
+        object: &mut Object,
+        task: Option<u32>,
+    ) -> Result<(), AllocError> {
+        let words = self.words(expansion, task)?;
         object.text("words", words.as_str());
         Ok(())
     }
 
     /// Adds the name of a task.
-    fn record_task(&self, object: &mut Object, task: u32) -> Result<(), AllocError> {
-        let name = self.task_name(task)?;
+    fn record_task(
+        &self,
+        expansion: &Expansion<'_>,
+        object: &mut Object,
+        task: u32,
+    ) -> Result<(), AllocError> {
+        let name = self.task_name(expansion, task)?;
         object.text("task", name.as_str());
         Ok(())
     }
@@ -58,6 +69,7 @@ impl<'p> Run<'p> {
     /// Adds the true path of a group at this place among the paths, or the root's.
     fn record_path(
         &self,
+        expansion: &Expansion<'_>,
         object: &mut Object,
         key: &str,
         place: Option<usize>,
@@ -67,18 +79,23 @@ impl<'p> Run<'p> {
             Some(place) => self.watch.path_at(place),
         };
         let mut path = Draft::new(self.alloc);
-        add_true_path(&mut path, self.expansion.names(), script);
+        add_true_path(&mut path, expansion.names(), script);
         object.text(key, path.finish()?.as_str());
         Ok(())
     }
 
     /// Adds how large the task was, among how many, and why room was needed.
-    fn record_doom(&self, object: &mut Object, doomed: Doomed) -> Result<(), AllocError> {
-        let page = self.expansion.scene().page();
+    fn record_doom(
+        &self,
+        expansion: &Expansion<'_>,
+        object: &mut Object,
+        doomed: Doomed,
+    ) -> Result<(), AllocError> {
+        let page = expansion.scene().page();
         object.number("size", bytes_of(page, doomed.victim.pages as u64));
         object.number("tasks", u64::from(doomed.victim.tasks));
         object.text("cause", name_of(doomed.cause));
-        self.record_path(object, "limit", doomed.limit)?;
+        self.record_path(expansion, object, "limit", doomed.limit)?;
         let max = match (doomed.cause, finite(doomed.max)) {
             (Cause::Charge(_) | Cause::Lower(_), Some(pages)) => Some(bytes_of(page, pages)),
             _ => None,
@@ -88,10 +105,15 @@ impl<'p> Run<'p> {
     }
 
     /// Adds the tasks that died with a victim.
-    fn record_others(&self, object: &mut Object, victims: &[u32]) -> Result<(), AllocError> {
+    fn record_others(
+        &self,
+        expansion: &Expansion<'_>,
+        object: &mut Object,
+        victims: &[u32],
+    ) -> Result<(), AllocError> {
         let mut others = Vec::new(self.alloc);
         for other in victims.get(1..).unwrap_or(&[]) {
-            others.push(self.task_name(*other)?)?;
+            others.push(self.task_name(expansion, *other)?)?;
         }
         object.texts("with", others.as_slice());
         Ok(())
@@ -100,31 +122,33 @@ impl<'p> Run<'p> {
     /// Adds what is known of a kill.
     fn record_kill(
         &self,
+        expansion: &Expansion<'_>,
         object: &mut Object,
         place: usize,
         victims: &[u32],
         task: Option<u32>,
     ) -> Result<(), AllocError> {
-        self.record_words(object, task)?;
+        self.record_words(expansion, object, task)?;
         if let Some(victim) = victims.first() {
-            self.record_task(object, *victim)?;
+            self.record_task(expansion, object, *victim)?;
         }
-        self.record_others(object, victims)?;
+        self.record_others(expansion, object, victims)?;
         match self.watch.kill_at(place) {
             None => Ok(()),
-            Some(doomed) => self.record_doom(object, doomed),
+            Some(doomed) => self.record_doom(expansion, object, doomed),
         }
     }
 
     /// A kill: `with` are the tasks that died with the victim, since its group is killed as one.
     pub fn kill_object(
         &self,
+        expansion: &Expansion<'_>,
         place: usize,
         victims: &[u32],
         task: Option<u32>,
     ) -> Result<Vec<u8>, AllocError> {
-        let mut object = self.object("kill");
-        self.record_kill(&mut object, place, victims, task)?;
+        let mut object = self.object(expansion, "kill");
+        self.record_kill(expansion, &mut object, place, victims, task)?;
         object.line()
     }
 
@@ -142,20 +166,26 @@ impl<'p> Run<'p> {
     /// An entry that was refused.
     pub fn refused_object(
         &self,
+        expansion: &Expansion<'_>,
         words: &[Word],
         task: Option<u32>,
         expected: bool,
     ) -> Result<Vec<u8>, AllocError> {
-        let mut object = self.object("refused");
-        self.record_words(&mut object, task)?;
+        let mut object = self.object(expansion, "refused");
+        self.record_words(expansion, &mut object, task)?;
         self.record_answers(&mut object, words)?;
         object.boolean("expected", expected);
         object.line()
     }
 
     /// An expectation: `number` is the bytes or the count that was found.
-    pub fn expect_object(&self, words: &Text, verdict: &Verdict) -> Result<Vec<u8>, AllocError> {
-        let mut object = self.object("expect");
+    pub fn expect_object(
+        &self,
+        expansion: &Expansion<'_>,
+        words: &Text,
+        verdict: &Verdict,
+    ) -> Result<Vec<u8>, AllocError> {
+        let mut object = self.object(expansion, "expect");
         object.text("words", words.as_str());
         object.boolean("met", verdict.met);
         object.text("found", verdict.found.as_str());
@@ -166,14 +196,15 @@ impl<'p> Run<'p> {
     /// Adds the group of this path, if the machine has it.
     fn record_group(
         &self,
+        expansion: &Expansion<'_>,
         object: &mut Object,
         stepper: &Stepper<MemDevice>,
         path: &Path,
     ) -> Result<(), AllocError> {
-        let Some((shown, number, stats)) = self.shown_group(stepper, path)? else {
+        let Some((shown, number, stats)) = self.shown_group(expansion, stepper, path)? else {
             return Ok(());
         };
-        let page = self.expansion.scene().page();
+        let page = expansion.scene().page();
         let group = Group {
             path: shown.as_str(),
             stats,
@@ -187,13 +218,14 @@ impl<'p> Run<'p> {
     /// Adds the groups that a `show` names, or all.
     fn record_groups(
         &self,
+        expansion: &Expansion<'_>,
         object: &mut Object,
         stepper: &Stepper<MemDevice>,
         words: &[Filled],
     ) -> Result<(), Problem> {
-        let paths = self.shown_groups(words)?;
+        let paths = self.shown_groups(expansion, words)?;
         for path in paths.iter() {
-            self.record_group(object, stepper, path)?;
+            self.record_group(expansion, object, stepper, path)?;
         }
         Ok(())
     }
@@ -201,32 +233,37 @@ impl<'p> Run<'p> {
     /// A table: counts of groups, and what was moved, are those of the phase.
     pub fn show_object(
         &self,
+        expansion: &Expansion<'_>,
         stepper: &Stepper<MemDevice>,
         words: &[Filled],
         moved: Moved,
     ) -> Result<Vec<u8>, Problem> {
-        let mut object = self.object("show");
+        let mut object = self.object(expansion, "show");
         object.text("phase", self.phase.as_str());
-        add_moved(&mut object, self.expansion.scene().page(), moved);
+        add_moved(&mut object, expansion.scene().page(), moved);
         object.begin("groups");
-        self.record_groups(&mut object, stepper, words)?;
+        self.record_groups(expansion, &mut object, stepper, words)?;
         object.end();
         Ok(object.line()?)
     }
 
     /// The phase that begins.
-    pub fn mark_object(&self) -> Result<Vec<u8>, AllocError> {
-        let mut object = self.object("mark");
+    pub fn mark_object(&self, expansion: &Expansion<'_>) -> Result<Vec<u8>, AllocError> {
+        let mut object = self.object(expansion, "mark");
         object.text("phase", self.phase.as_str());
         object.line()
     }
 
     /// Adds the tasks that have lines after their deaths.
-    fn record_late(&self, object: &mut Object) -> Result<(), AllocError> {
+    fn record_late(
+        &self,
+        expansion: &Expansion<'_>,
+        object: &mut Object,
+    ) -> Result<(), AllocError> {
         let late = self.tasks.late(self.alloc)?;
         for (task, lines) in late.iter() {
             object.open();
-            self.record_task(object, *task)?;
+            self.record_task(expansion, object, *task)?;
             object.number("lines", *lines);
             object.close();
         }
@@ -234,11 +271,17 @@ impl<'p> Run<'p> {
     }
 
     /// The end of the run.
-    pub fn end_object(&self, checked: &Checked, moved: Moved) -> Result<Vec<u8>, AllocError> {
-        let scene = self.expansion.scene();
+    pub fn end_object(
+        &self,
+        expansion: &Expansion<'_>,
+        checked: &Checked,
+        moved: Moved,
+        well: bool,
+    ) -> Result<Vec<u8>, AllocError> {
+        let scene = expansion.scene();
         let page = scene.page();
         let mut object = Object::new(self.alloc, "end");
-        object.boolean("as_expected", self.well);
+        object.boolean("as_expected", well);
         object.number("memory", bytes_of(page, u64::from(scene.header.frames)));
         object.number("swap", bytes_of(page, u64::from(scene.header.swap)));
         object.number("groups", checked.groups as u64);
@@ -246,7 +289,7 @@ impl<'p> Run<'p> {
         object.number("killed", self.tasks.dead().len() as u64);
         add_moved(&mut object, page, moved);
         object.begin("late");
-        self.record_late(&mut object)?;
+        self.record_late(expansion, &mut object)?;
         object.end();
         object.line()
     }

@@ -3,6 +3,7 @@
 use crate::run::{Run, say};
 use block_store::MemDevice;
 use driver::Stepper;
+use expansion::expansion::Expansion;
 use scenario_faults::Problem;
 use scenario_pictures::{
     Group, Level, MOST_CURVES, Machine, Place, Row, Told, csv_row, finite, row_object,
@@ -19,8 +20,8 @@ impl<'p> Run<'p> {
     }
 
     /// Whether the last item is of a line that starts groups or tasks. Such a line has no row.
-    fn only_starts(&self) -> Result<bool, AllocError> {
-        let words = self.expansion.words()?;
+    fn only_starts(&self, expansion: &Expansion<'_>) -> Result<bool, AllocError> {
+        let words = expansion.words()?;
         let words = words.as_str();
         Ok(words.starts_with("group ") || words.starts_with("task "))
     }
@@ -32,75 +33,83 @@ impl<'p> Run<'p> {
     /// entry.
     pub fn row_before_entry<O: Write>(
         &mut self,
+        expansion: &Expansion<'_>,
         stepper: &Stepper<MemDevice>,
         out: &mut O,
     ) -> Result<(), Problem> {
         if !self.has_rows() {
             return Ok(());
         }
-        let line = self.expansion.line();
-        let goes_on = self.pace.goes_on(line, self.expansion.rounds());
-        if !goes_on && self.only_starts()? {
-            return self.row_before_note(stepper, out);
+        let line = expansion.line();
+        let goes_on = self.pace.goes_on(line, expansion.rounds());
+        if !goes_on && self.only_starts(expansion)? {
+            return self.row_before_note(expansion, stepper, out);
         }
-        match self.pace.meet(self.alloc, line, self.expansion.rounds())? {
+        match self.pace.meet(self.alloc, line, expansion.rounds())? {
             None => Ok(()),
-            Some(place) => self.row(stepper, place, out),
+            Some(place) => self.row(expansion, stepper, place, out),
         }
     }
 
     /// Something comes that is no entry, or the end. A row is made before it.
     pub fn row_before_note<O: Write>(
         &mut self,
+        expansion: &Expansion<'_>,
         stepper: &Stepper<MemDevice>,
         out: &mut O,
     ) -> Result<(), Problem> {
         match self.pace.close() {
             None => Ok(()),
-            Some(place) => self.row(stepper, place, out),
+            Some(place) => self.row(expansion, stepper, place, out),
         }
     }
 
     /// The phase ends. Its last row is shown.
     pub fn last_row<O: Write>(
         &mut self,
+        expansion: &Expansion<'_>,
         stepper: &Stepper<MemDevice>,
         out: &mut O,
     ) -> Result<(), Problem> {
         match self.pace.skipped() {
             None => Ok(()),
-            Some(place) => self.show_row(stepper, place, out),
+            Some(place) => self.show_row(expansion, stepper, place, out),
         }
     }
 
     /// A row is made, and shown if it is kept.
     fn row<O: Write>(
         &mut self,
+        expansion: &Expansion<'_>,
         stepper: &Stepper<MemDevice>,
         place: Place,
         out: &mut O,
     ) -> Result<(), Problem> {
         if self.pace.keeps() {
-            return self.show_row(stepper, place, out);
+            return self.show_row(expansion, stepper, place, out);
         }
         self.pace.skip(place);
         Ok(())
     }
 
     /// Finds the groups that are new.
-    pub fn look_at_groups(&mut self) -> Result<(), AllocError> {
-        let names = self.expansion.names();
+    pub fn look_at_groups(&mut self, expansion: &Expansion<'_>) -> Result<(), AllocError> {
+        let names = expansion.names();
         self.choice
             .look(self.alloc, &self.asked, names, self.watch.paths())
     }
 
     /// An entry was carried out. Curves show the most that a group was charged with since the last row, so each entry
     /// counts.
-    pub fn note_peaks(&mut self, stepper: &Stepper<MemDevice>) -> Result<(), AllocError> {
+    pub fn note_peaks(
+        &mut self,
+        expansion: &Expansion<'_>,
+        stepper: &Stepper<MemDevice>,
+    ) -> Result<(), AllocError> {
         if self.asked.prints != Prints::Chart {
             return Ok(());
         }
-        self.look_at_groups()?;
+        self.look_at_groups(expansion)?;
         if self.choice.all.len() <= MOST_CURVES {
             self.choice.note_peaks(stepper.book());
         }
@@ -109,30 +118,31 @@ impl<'p> Run<'p> {
 
     fn show_row<O: Write>(
         &mut self,
+        expansion: &Expansion<'_>,
         stepper: &Stepper<MemDevice>,
         place: Place,
         out: &mut O,
     ) -> Result<(), Problem> {
-        self.look_at_groups()?;
-        let machine = self.machine(stepper);
+        self.look_at_groups(expansion)?;
+        let machine = self.machine(expansion, stepper);
         match self.asked.prints {
             Prints::Report | Prints::Unmet => {}
             Prints::Chart => {
-                let told = self.told(stepper, place, machine)?;
+                let told = self.told(expansion, stepper, place, machine)?;
                 self.story.add(told)?;
                 self.choice.clear_peaks();
             }
             Prints::Csv => {
                 let text = {
-                    let row = self.numbers(stepper, &place, machine)?;
-                    csv_row(self.alloc, self.expansion.scene().page(), &row)?
+                    let row = self.numbers(expansion, stepper, &place, machine)?;
+                    csv_row(self.alloc, expansion.scene().page(), &row)?
                 };
                 say(out, text.as_str())?;
             }
             Prints::Json => {
                 let bytes = {
-                    let row = self.numbers(stepper, &place, machine)?;
-                    row_object(self.alloc, self.expansion.scene().page(), &row)?
+                    let row = self.numbers(expansion, stepper, &place, machine)?;
+                    row_object(self.alloc, expansion.scene().page(), &row)?
                 };
                 out.write_all(bytes.as_slice())?;
             }
@@ -142,10 +152,10 @@ impl<'p> Run<'p> {
     }
 
     /// The numbers of the machine now.
-    fn machine(&mut self, stepper: &Stepper<MemDevice>) -> Machine {
+    fn machine(&mut self, expansion: &Expansion<'_>, stepper: &Stepper<MemDevice>) -> Machine {
         let moved = self.moved(stepper);
         let tally = stepper.book().tally();
-        let header = self.expansion.header();
+        let header = expansion.header();
         Machine {
             used: u64::from(header.frames.saturating_sub(tally.free_frames)),
             free: u64::from(tally.free_frames),
@@ -157,6 +167,7 @@ impl<'p> Run<'p> {
     /// The numbers of a row.
     fn numbers<'r>(
         &'r self,
+        expansion: &Expansion<'_>,
         stepper: &Stepper<MemDevice>,
         place: &'r Place,
         machine: Machine,
@@ -180,6 +191,7 @@ impl<'p> Run<'p> {
     /// The numbers of a row that the picture shows.
     fn told(
         &self,
+        expansion: &Expansion<'_>,
         stepper: &Stepper<MemDevice>,
         place: Place,
         machine: Machine,

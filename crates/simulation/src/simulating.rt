@@ -1,27 +1,30 @@
 //! The run of a scenario.
 
-ghost use Rattle.std.specs.Prelude.{◌≡◌, ◌≢◌, ◌⊎◌, ◌≤◌, [], true, map, IsOk, OnOk, IfErr};
+ghost use Rattle.std.specs.Prelude.{◌≡◌, ◌≢◌, ◌⊎◌, ◌≤◌, [], true, map, IsOk, OnOk, IfOk, IfErr};
 ghost use Rattle.scenarios.specs.Scenario.{scenario_of};
 ghost use Rattle.scenario_faults.specs.Failures.{failure_of};
 ghost use Rattle.scenario_faults.specs.Settings.{settings_of, has_unnamed};
 ghost use Rattle.scenario_faults.specs.declared.fault.Failure.TheVariants.{Faulty, Misasked};
+ghost use Rattle.driver.specs.Schedule.{World};
+ghost use Rattle.expansion.specs.ToCome.{known, still};
+ghost use Rattle.expansion.specs.Walk.{ends};
 ghost use Rattle.scenario_reports.specs.Faulty.{AreFaulty, IsFaulty, LacksName};
+ghost use Rattle.simulation.specs.Met.{Opens, MeetsItems, MeetsLines, IsAsExpected};
 
 use crate::outcomes::MOST_KILLS_TOLD;
-use crate::run::{Course, Run, say};
+use crate::run::{Run, say};
+use crate::simulation::{Count, Simulation};
 use block_store::MemDevice;
 use drafts::Draft;
-use driver::{Actor, Stepper};
-use expansion::expansion::{Cuts, Expansion, Item};
+use driver::Stepper;
+use expansion::expansion::{Cuts, Expansion};
 use files::blocks_for;
-use scenario_faults::{
-    Failure, Problem, check_settings, problem_of, read_scenario, reported, settings_of,
-};
+use scenario_faults::{Failure, Problem, check_settings, read_scenario, reported, settings_of};
+use scenario_machines::{config_of, failing_of};
 use scenario_pictures::{Moved, Object, csv_head, picture_of};
 use scenario_reports::asked::{Asked, Prints};
 use scenario_reports::checked::{Checked, check};
 use scenario_reports::confirming::confirmed;
-use scenario_reports::machines::{config_of, failing_of};
 use scenario_reports::telling::{add_late, add_totals};
 use scenario_words::header::DeviceCall;
 use scenarios::scenario::Scenario;
@@ -29,75 +32,8 @@ use std::alloc::{AllocError, Global};
 use std::io::Write;
 
 impl<'p> Run<'p> {
-    /// Carries out an item.
-    fn item<O: Write>(
-        &mut self,
-        stepper: &mut Stepper<MemDevice>,
-        item: Item,
-        out: &mut O,
-    ) -> Result<Course, Problem> {
-        self.watch.clear();
-        let task = match item {
-            Item::Opened => {
-                self.cut(stepper)?;
-                return Ok(Course::GoesOn);
-            }
-            Item::Unreached(line) => {
-                self.row_before_note(stepper, out)?;
-                self.tell_unreached(line, out)?;
-                return Ok(Course::GoesOn);
-            }
-            Item::Note(text) => {
-                self.row_before_note(stepper, out)?;
-                self.note(stepper, &text, out)?;
-                return Ok(Course::GoesOn);
-            }
-            Item::Raw(line) => {
-                self.row_before_entry(stepper, out)?;
-                self.done = None;
-                self.raw(stepper, line.as_str())?;
-                None
-            }
-            Item::Entry(actor, command) => {
-                self.row_before_entry(stepper, out)?;
-                self.done = Some((actor, command.copy(self.alloc)?));
-                self.whole(stepper, actor, command)?;
-                task_of(actor)
-            }
-        };
-        self.note_peaks(stepper)?;
-        let course = self.tell(task, out)?;
-        if course == Course::GoesOn {
-            self.cut(stepper)?;
-        }
-        Ok(course)
-    }
-
-    /// Carries out all items, or those up to a refusal that ends the run.
-    pub fn items<O: Write>(
-        &mut self,
-        stepper: &mut Stepper<MemDevice>,
-        out: &mut O,
-    ) -> Result<(), Problem> {
-        for _ in 0..u64::MAX {
-            let item = match self.expansion.next() {
-                Ok(None) => break,
-                Ok(Some(item)) => item,
-                Err(error) => {
-                    let settings = self.asked.settings;
-                    let scene = Some(self.expansion.scene());
-                    return Err(problem_of(self.alloc, self.scenario, settings, scene, error));
-                }
-            };
-            if self.item(stepper, item, out)? == Course::Ends {
-                break;
-            }
-        }
-        Ok(())
-    }
-
     /// Tells that no cut was made in a list with `until` of the line with this number.
-    fn tell_unreached<O: Write>(&self, line: usize, out: &mut O) -> Result<(), Problem> {
+    pub fn tell_unreached<O: Write>(&self, line: usize, out: &mut O) -> Result<(), Problem> {
         match self.asked.prints {
             Prints::Report => {
                 let text = format!(in self.alloc; "line {line}: until is not reached\n")?;
@@ -115,26 +51,28 @@ impl<'p> Run<'p> {
     }
 
     /// Prints what comes last.
-    fn end<O: Write>(
+    pub fn end<O: Write>(
         &mut self,
+        expansion: &Expansion<'_>,
         stepper: &Stepper<MemDevice>,
         checked: &Checked,
+        count: Count,
         out: &mut O,
     ) -> Result<(), Problem> {
-        self.row_before_note(stepper, out)?;
-        self.last_row(stepper, out)?;
+        self.row_before_note(expansion, stepper, out)?;
+        self.last_row(expansion, stepper, out)?;
         match self.asked.prints {
-            Prints::Report => self.end_report(stepper, checked, out),
+            Prints::Report => self.end_report(expansion, stepper, checked, out),
             Prints::Json => {
                 let moved = self.moved(stepper);
-                let bytes = self.end_object(checked, moved)?;
+                let bytes = self.end_object(expansion, checked, moved, count.well)?;
                 out.write_all(bytes.as_slice())?;
                 Ok(())
             }
             Prints::Csv => Ok(()),
-            Prints::Unmet => self.end_check(out),
+            Prints::Unmet => self.end_check(count, out),
             Prints::Chart => {
-                let header = self.expansion.header();
+                let header = expansion.header();
                 let groups = self.choice.all.as_slice();
                 let text = picture_of(self.alloc, self.asked.name, header, groups, &self.story)?;
                 say(out, text.as_str())
@@ -143,12 +81,12 @@ impl<'p> Run<'p> {
     }
 
     /// The last line of a check, if all was as expected.
-    fn end_check<O: Write>(&self, out: &mut O) -> Result<(), Problem> {
-        if !self.well {
+    fn end_check<O: Write>(&self, count: Count, out: &mut O) -> Result<(), Problem> {
+        if !count.well {
             return Ok(());
         }
         let name = self.asked.name;
-        let text = match self.judged {
+        let text = match count.judged {
             1 => format!(in self.alloc; "{name}: ok, 1 expectation\n")?,
             judged => format!(in self.alloc; "{name}: ok, {judged} expectations\n")?,
         };
@@ -156,33 +94,25 @@ impl<'p> Run<'p> {
     }
 
     /// Each group that rows were asked for was made.
-    fn check_groups(&mut self) -> Result<(), Problem> {
+    pub fn check_groups(&mut self, expansion: &Expansion<'_>) -> Result<(), Problem> {
         if !self.has_rows() {
             return Ok(());
         }
-        self.look_at_groups()?;
+        self.look_at_groups(expansion)?;
         match self.choice.missing(&self.asked) {
             None => Ok(()),
             Some(path) => Err(Problem::Group(String::from_str(self.alloc, path)?)),
         }
     }
 
-    /// Carries out all items, and prints what comes last. The result says whether all was as expected.
-    fn run_to_end<O: Write>(
-        &mut self,
-        stepper: &mut Stepper<MemDevice>,
-        checked: &Checked,
-        out: &mut O,
-    ) -> Result<bool, Problem> {
-        self.items(stepper, out)?;
-        self.end(stepper, checked, out)?;
-        self.check_groups()?;
-        Ok(self.well)
-    }
-
     /// The last lines of the report.
-    fn last_lines(&self, checked: &Checked, moved: Moved) -> Result<String, AllocError> {
-        let scene = self.expansion.scene();
+    fn last_lines(
+        &self,
+        expansion: &Expansion<'_>,
+        checked: &Checked,
+        moved: Moved,
+    ) -> Result<String, AllocError> {
+        let scene = expansion.scene();
         let mut text = Draft::new(self.alloc);
         if self.kills > MOST_KILLS_TOLD {
             text.number(self.kills - MOST_KILLS_TOLD);
@@ -204,26 +134,21 @@ impl<'p> Run<'p> {
     /// Prints the last lines of the report.
     fn end_report<O: Write>(
         &mut self,
+        expansion: &Expansion<'_>,
         stepper: &Stepper<MemDevice>,
         checked: &Checked,
         out: &mut O,
     ) -> Result<(), Problem> {
         let moved = self.moved(stepper);
-        let text = self.last_lines(checked, moved)?;
+        let text = self.last_lines(expansion, checked, moved)?;
         say(out, text.as_str())
     }
 }
 
-/// The task of an actor that is one.
-fn task_of(actor: Actor) -> Option<u32> {
-    match actor {
-        Actor::Task(task) => Some(task),
-        Actor::Shell | Actor::Control | Actor::Daemon => None,
-    }
-}
-
 /// Opens the machine of a scenario.
-pub fn open(alloc: Global, expansion: &Expansion<'_>) -> Result<Stepper<MemDevice>, Problem> {
+pub fn open(alloc: Global, expansion: &Expansion<'_>) -> Result<Stepper<MemDevice>, Problem>
+    ensures opens { IfOk result (Opens (known expansion.now)) }
+{
     let header = expansion.header();
     let config = config_of(alloc, header, expansion.names())?;
     let read_faults = failing_of(alloc, header, DeviceCall::Read)?;
@@ -238,6 +163,24 @@ pub fn open(alloc: Global, expansion: &Expansion<'_>) -> Result<Stepper<MemDevic
     }
 }
 
+/// Carries out what an expansion gives, on a new machine. The result says whether all was as expected.
+fn run_machine<'a, O: Write>(
+    alloc: Global,
+    scenario: &'a Scenario,
+    checked: &Checked,
+    asked: &Asked<'a>,
+    expansion: &mut Expansion<'_>,
+    stepper: &mut Stepper<MemDevice>,
+    out: &mut O,
+) -> Result<bool, Problem>
+    ensures met { ends (still expansion.old).ending ≡ true → IfOk result (λ well. well ≡ true → (end : World) × MeetsItems (known expansion.old).machine.page stepper.old (still expansion.old).outs end) }
+{
+    let page = expansion.header().page;
+    let mut simulation = Simulation::new(alloc, scenario, *asked, page)?;
+    let well = simulation.run_to_end(alloc, expansion, stepper, checked, out)?;
+    Ok(well)
+}
+
 /// Carries out a scenario without a fault. The result says whether all was as expected.
 fn carry_out<'a, O: Write>(
     alloc: Global,
@@ -245,14 +188,21 @@ fn carry_out<'a, O: Write>(
     checked: &Checked,
     asked: &Asked<'a>,
     out: &mut O,
-) -> Result<bool, Problem> {
+) -> Result<bool, Problem>
+    ensures met { IfOk result (λ well. well ≡ true → MeetsLines scenario.now.lines.items (settings_of (map (λ t. t.now) asked.now.settings.now))) }
+{
     let settings = settings_of(alloc, asked.settings)?;
-    let expansion = Expansion::new(alloc, scenario, settings, Cuts::ByRun)?;
+    let mut expansion = Expansion::new(alloc, scenario, settings, Cuts::ByRun)?;
     let mut stepper = open(alloc, &expansion)?;
-    let ran = match Run::new(alloc, scenario, expansion, *asked) {
-        Ok(mut run) => run.run_to_end(&mut stepper, checked, out),
-        Err(AllocError) => Err(Problem::Memory),
-    };
+    let ran = run_machine(
+        alloc,
+        scenario,
+        checked,
+        asked,
+        &mut expansion,
+        &mut stepper,
+        out,
+    );
     let _ = stepper.close();
     ran
 }
@@ -263,7 +213,9 @@ fn check_and_run<O: Write>(
     scenario: &Scenario,
     asked: &Asked<'_>,
     out: &mut O,
-) -> Result<bool, Problem> {
+) -> Result<bool, Problem>
+    ensures met { IfOk result (λ well. well ≡ true → MeetsLines scenario.now.lines.items (settings_of (map (λ t. t.now) asked.now.settings.now))) }
+{
     let checked = check(alloc, scenario, asked)?;
     out.write_all(checked.rounded.as_slice())?;
     if asked.prints == Prints::Csv {
@@ -280,6 +232,7 @@ fn run_program<O: Write>(
     asked: &Asked<'_>,
     out: &mut O,
 ) -> Result<bool, Problem>
+    ensures met { IfOk result (λ well. well ≡ true → MeetsLines scenario.now.lines.items (settings_of (map (λ t. t.now) asked.now.settings.now))) }
     ensures faulty { IfErr result (λ problem. failure_of problem ≡ Faulty → AreFaulty scenario.now.lines.items (settings_of (map (λ t. t.now) asked.now.settings.now))) }
     ensures misasked { IfErr result (λ problem. failure_of problem ≡ Misasked → (has_unnamed scenario.now.lines.items (map (λ t. t.now) asked.now.settings.now) ≡ true) ⊎ (asked.now.groups.now ≢ [])) }
 {
@@ -312,6 +265,8 @@ pub fn try_simulate<O: Write, E: Write>(
     ensures silent { OnOk result (E.contents err.new ≡ E.contents err.old) }
     // A text with a fault is not run.
     ensures reads { OnOk result (IsOk (scenario_of text.now)) }
+    // All is as expected only if each `expect` of what a group is charged with holds where it stands.
+    ensures met { IfOk result (λ well. well ≡ true → IsAsExpected text.now (map (λ t. t.now) asked.now.settings.now)) }
     // Only a faulty scenario is said to be faulty.
     ensures faulty { IfErr result (λ why. why ≡ Faulty → IsFaulty text.now (map (λ t. t.now) asked.now.settings.now)) }
     // Only what is asked for is said to be misasked: a name that no `let` has, or paths of groups.
@@ -347,6 +302,8 @@ pub fn simulate<O: Write, E: Write>(
     ensures silent { result ≡ 0 → E.contents err.new ≡ E.contents err.old }
     // A text with a fault is not run.
     ensures reads { result ≡ 0 → IsOk (scenario_of text.now) }
+    // And each `expect` of what a group is charged with holds where it stands.
+    ensures met { result ≡ 0 → IsAsExpected text.now (map (λ t. t.now) asked.now.settings.now) }
 {
     match try_simulate(alloc, asked, text, out, err) {
         Ok(true) => 0,

@@ -3,6 +3,7 @@
 use crate::run::Run;
 use block_store::MemDevice;
 use driver::Stepper;
+use expansion::expansion::Expansion;
 use scenario_reports::summary::Summary;
 use std::alloc::AllocError;
 
@@ -11,17 +12,22 @@ const MOST_NAMES: usize = 3;
 
 impl<'p> Run<'p> {
     /// What came of the run so far.
-    pub fn summary(&mut self, stepper: &Stepper<MemDevice>) -> Result<Summary, AllocError> {
+    pub fn summary(
+        &mut self,
+        expansion: &Expansion<'_>,
+        stepper: &Stepper<MemDevice>,
+        well: bool,
+    ) -> Result<Summary, AllocError> {
         let moved = self.moved(stepper).since(self.phase_moved);
-        let scene = self.expansion.scene();
+        let scene = expansion.scene();
         let mut first = Vec::new(self.alloc);
         for task in self.tasks.dead().iter().take(MOST_NAMES) {
-            first.push(self.task_name(*task)?)?;
+            first.push(self.task_name(expansion, *task)?)?;
         }
         Ok(Summary {
             page: scene.page(),
             moved,
-            well: self.well,
+            well,
             killed: self.tasks.dead().len(),
             first,
         })

@@ -4,6 +4,7 @@ use crate::run::{Run, say};
 use block_store::MemDevice;
 use drafts::Draft;
 use driver::Stepper;
+use expansion::expansion::Expansion;
 use scenario_faults::{Problem, add_path};
 use scenario_pictures::{Counts, Moved, Stats};
 use scenario_reports::asked::Prints;
@@ -41,10 +42,11 @@ impl<'p> Run<'p> {
     /// The true path of a group, its number and its numbers, if the machine has it.
     pub fn shown_group(
         &self,
+        expansion: &Expansion<'_>,
         stepper: &Stepper<MemDevice>,
         path: &Path,
     ) -> Result<Option<(String, u32, Stats)>, AllocError> {
-        let script = self.expansion.scene().script_path(path)?;
+        let script = expansion.scene().script_path(path)?;
         let Some((number, stats)) = stats_of(stepper.book(), script.as_str()) else {
             return Ok(None);
         };
@@ -56,18 +58,19 @@ impl<'p> Run<'p> {
     /// Adds the row of a group, if the machine has it.
     fn add_group(
         &self,
+        expansion: &Expansion<'_>,
         text: &mut Draft,
         stepper: &Stepper<MemDevice>,
         path: &Path,
     ) -> Result<(), AllocError> {
-        let Some((shown, number, stats)) = self.shown_group(stepper, path)? else {
+        let Some((shown, number, stats)) = self.shown_group(expansion, stepper, path)? else {
             return Ok(());
         };
         let then = self.baseline_of(number);
         add_row(
             self.alloc,
             text,
-            self.expansion.scene().page(),
+            expansion.scene().page(),
             shown.as_str(),
             stats,
             then,
@@ -77,8 +80,12 @@ impl<'p> Run<'p> {
     }
 
     /// The groups that a `show` names, or all.
-    pub fn shown_groups(&self, words: &[Filled]) -> Result<Vec<Path>, Problem> {
-        let scene = self.expansion.scene();
+    pub fn shown_groups(
+        &self,
+        expansion: &Expansion<'_>,
+        words: &[Filled],
+    ) -> Result<Vec<Path>, Problem> {
+        let scene = expansion.scene();
         let mut paths = Vec::new(self.alloc);
         if words.len() <= 1 {
             for path in scene.groups() {
@@ -96,13 +103,14 @@ impl<'p> Run<'p> {
     /// Adds the rows of the groups that a `show` names, or of all.
     fn add_rows(
         &self,
+        expansion: &Expansion<'_>,
         text: &mut Draft,
         stepper: &Stepper<MemDevice>,
         words: &[Filled],
     ) -> Result<(), Problem> {
-        let paths = self.shown_groups(words)?;
+        let paths = self.shown_groups(expansion, words)?;
         for path in paths.iter() {
-            self.add_group(text, stepper, path)?;
+            self.add_group(expansion, text, stepper, path)?;
         }
         Ok(())
     }
@@ -110,24 +118,26 @@ impl<'p> Run<'p> {
     /// The table of a `show`.
     fn show_text(
         &self,
+        expansion: &Expansion<'_>,
         stepper: &Stepper<MemDevice>,
         words: &[Filled],
         moved: Moved,
     ) -> Result<String, Problem> {
-        let mut text = self.place();
+        let mut text = self.place(expansion);
         let characters = text.characters();
         add_head(&mut text, characters);
-        self.add_rows(&mut text, stepper, words)?;
+        self.add_rows(expansion, &mut text, stepper, words)?;
         text.text("  ");
         text.text(self.phase.as_str());
         text.text(": ");
-        moved.add(&mut text, self.expansion.scene().page());
+        moved.add(&mut text, expansion.scene().page());
         text.text("\n");
         Ok(text.finish()?)
     }
 
     pub fn show<O: Write>(
         &mut self,
+        expansion: &Expansion<'_>,
         stepper: &Stepper<MemDevice>,
         words: &[Filled],
         out: &mut O,
@@ -135,11 +145,11 @@ impl<'p> Run<'p> {
         let moved = self.moved(stepper).since(self.phase_moved);
         match self.asked.prints {
             Prints::Report => {
-                let text = self.show_text(stepper, words, moved)?;
+                let text = self.show_text(expansion, stepper, words, moved)?;
                 say(out, text.as_str())
             }
             Prints::Json => {
-                let bytes = self.show_object(stepper, words, moved)?;
+                let bytes = self.show_object(expansion, stepper, words, moved)?;
                 out.write_all(bytes.as_slice())?;
                 Ok(())
             }
@@ -148,8 +158,12 @@ impl<'p> Run<'p> {
     }
 
     /// What all groups have now.
-    fn baselines_now(&self, stepper: &Stepper<MemDevice>) -> Result<Vec<Baseline>, AllocError> {
-        let scene = self.expansion.scene();
+    fn baselines_now(
+        &self,
+        expansion: &Expansion<'_>,
+        stepper: &Stepper<MemDevice>,
+    ) -> Result<Vec<Baseline>, AllocError> {
+        let scene = expansion.scene();
         let mut baselines = Vec::new(self.alloc);
         for path in scene.groups() {
             let script = scene.script_path(path)?;
@@ -166,17 +180,18 @@ impl<'p> Run<'p> {
     /// A phase begins.
     pub fn mark<O: Write>(
         &mut self,
+        expansion: &Expansion<'_>,
         stepper: &Stepper<MemDevice>,
         words: &[Filled],
         out: &mut O,
     ) -> Result<(), Problem> {
-        self.last_row(stepper, out)?;
-        self.baselines = self.baselines_now(stepper)?;
+        self.last_row(expansion, stepper, out)?;
+        self.baselines = self.baselines_now(expansion, stepper)?;
         self.phase_moved = self.moved(stepper);
         self.by_group.mark();
         let name = rest_of(self.alloc, words)?;
         self.phase = if name.is_empty() {
-            format!(in self.alloc; "since line {}", self.expansion.line())?
+            format!(in self.alloc; "since line {}", expansion.line())?
         } else {
             name
         };
@@ -187,7 +202,7 @@ impl<'p> Run<'p> {
                 self.story.mark(name)?;
             }
             Prints::Json => {
-                let bytes = self.mark_object()?;
+                let bytes = self.mark_object(expansion)?;
                 out.write_all(bytes.as_slice())?;
             }
         }

@@ -3,8 +3,9 @@
 ghost use Rattle.std.specs.Prelude.{◌≡◌, ◌≤◌, IsOk};
 ghost use Rattle.scenarios.specs.Scenario.{scenario_of};
 
-use crate::run::{Run, say};
+use crate::run::say;
 use crate::simulating::open;
+use crate::simulation::Simulation;
 use block_store::MemDevice;
 use driver::Stepper;
 use expansion::expansion::{Cuts, Expansion};
@@ -65,12 +66,17 @@ impl Stopped {
     }
 }
 
-impl<'p> Run<'p> {
-    /// Carries out all items, and discards what they print.
-    fn run_silently(&mut self, stepper: &mut Stepper<MemDevice>) -> Result<Summary, Problem> {
-        self.items(stepper, &mut io::sink())?;
-        Ok(self.summary(stepper)?)
-    }
+/// Carries out what an expansion gives, and discards what it prints.
+fn run_silently<'a>(
+    alloc: Global,
+    scenario: &'a Scenario,
+    asked: &Asked<'a>,
+    expansion: &mut Expansion<'_>,
+    stepper: &mut Stepper<MemDevice>,
+) -> Result<Summary, Problem> {
+    let page = expansion.header().page;
+    let mut simulation = Simulation::new(alloc, scenario, *asked, page)?;
+    simulation.run_silently(alloc, expansion, stepper, &mut io::sink())
 }
 
 /// Runs the scenario once.
@@ -81,12 +87,9 @@ fn run_once<'a>(
 ) -> Result<Summary, Problem> {
     check(alloc, scenario, asked)?;
     let named = settings_of(alloc, asked.settings)?;
-    let expansion = Expansion::new(alloc, scenario, named, Cuts::ByRun)?;
+    let mut expansion = Expansion::new(alloc, scenario, named, Cuts::ByRun)?;
     let mut stepper = open(alloc, &expansion)?;
-    let ran = match Run::new(alloc, scenario, expansion, *asked) {
-        Ok(mut run) => run.run_silently(&mut stepper),
-        Err(AllocError) => Err(Problem::Memory),
-    };
+    let ran = run_silently(alloc, scenario, asked, &mut expansion, &mut stepper);
     let _ = stepper.close();
     ran
 }

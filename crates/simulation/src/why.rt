@@ -3,6 +3,7 @@
 use crate::run::Run;
 use drafts::Draft;
 use driver::{Actor, Command, Word};
+use expansion::expansion::Expansion;
 use explain::{Told, reason_of};
 use scenario_reports::commands::{add_refusal, true_command};
 use scenario_reports::telling::add_unmoved;
@@ -12,6 +13,7 @@ impl<'p> Run<'p> {
     /// Adds why a command was answered with a word, in brackets.
     pub fn add_why(
         &self,
+        expansion: &Expansion<'_>,
         text: &mut Draft,
         actor: Actor,
         command: &Command,
@@ -19,7 +21,7 @@ impl<'p> Run<'p> {
     ) -> Result<(), AllocError> {
         if word == Word::Io {
             if let Some(unmoved) = self.watch.unmoved() {
-                let scene = self.expansion.scene();
+                let scene = expansion.scene();
                 let makes_room = matches!(command, Command::Access { .. });
                 text.text(" (");
                 add_unmoved(text, scene, self.watch.paths(), unmoved, makes_room);
@@ -27,7 +29,7 @@ impl<'p> Run<'p> {
                 return Ok(());
             }
         }
-        let command = true_command(self.alloc, self.expansion.names(), command)?;
+        let command = true_command(self.alloc, expansion.names(), command)?;
         let told = Told {
             actor,
             command: &command,
@@ -39,7 +41,7 @@ impl<'p> Run<'p> {
         };
         if let Some(reason) = reason_of(told, word) {
             text.text(" (");
-            add_refusal(text, self.expansion.scene(), reason);
+            add_refusal(text, expansion.scene(), reason);
             text.text(")");
         }
         Ok(())

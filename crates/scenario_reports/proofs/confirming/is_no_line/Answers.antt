@@ -1,6 +1,6 @@
 use Rattle.std.proofs.Common.{◌≡◌, None, subst}
 use Rattle.scenario_lines.specs.Scene.{SceneNow}
-use Rattle.scenario_reports.specs.Faulty.{IsNoLine}
+use Rattle.scenario_machines.specs.RawLines.{IsNoLine}
 use Rattle.scenario_reports.proofs.confirming.is_no_line.Goals as goal
 use Rattle.scenario_reports.proofs.confirming.is_no_line.Goals.{in-Some, in-None}
 

@@ -1,7 +1,7 @@
 use Rattle.std.proofs.Common.{◌≡◌, ◌++◌, take, flat_map}
 use Rattle.std.specs.String.{string_bytes}
-use Rattle.scenario_reports.specs.Faulty.{file_line}
-use Rattle.scenario_reports.proofs.machines.add_files.Given as goal
+use Rattle.scenario_machines.specs.RawLines.{file_line}
+use Rattle.scenario_machines.proofs.machines.add_files.Given as goal
 
 -- the files before this one
 abbrev pub invariant-loop-file : goal.invariant-loop-file

@@ -1,15 +1,16 @@
 //! The machine that a scenario asks for, and lines of its script.
 
-ghost use Rattle.std.specs.Prelude.{◌≡◌, ◌++◌, None, IfOk, OnOk};
+ghost use Rattle.std.specs.Prelude.{◌≡◌, ◌++◌, map, None, IfOk, OnOk};
 ghost use Rattle.std.specs.List.{flat_map};
 ghost use Rattle.std.specs.String.{string_bytes};
 ghost use Rattle.scenario_words.specs.Header.{machine_of};
-ghost use Rattle.scenario_reports.specs.Faulty.{file_line, one_line, IsNoLine};
+ghost use Rattle.scenario_machines.specs.RawLines.{file_line, one_line, IsNoLine};
+ghost use Rattle.scenario_machines.specs.Machines.{file_for, IsConfigOf, is_of_call, number_of_call, failing_calls};
 
 use machine::config::{Config, File, FileList};
 use machine::page_size::PageSize;
 use machine::text::Text;
-use scenario_words::header::{DeviceCall, FileSize, Header};
+use scenario_words::header::{DeviceCall, Failing, FileSize, Header};
 use scenario_words::names::Names;
 use schedules::Schedule;
 use scripts::{Mode, Script, ScriptFault, read};
@@ -18,22 +19,33 @@ use std::alloc::{AllocError, Global};
 /// Entries that a history has, at most.
 const MOST_ENTRIES: u32 = 1_048_576;
 
+/// A file, by the name that a script has for it.
+fn file_of(alloc: Global, names: &Names, file: &FileSize) -> Result<File, AllocError>
+    ensures { IfOk result (λ made. made ≡ file_for names.now file.now) }
+{
+    let mut name = String::new(alloc);
+    names.add_name(&mut name, file.name.as_str())?;
+    Ok(File {
+        name: Text::new(name),
+        pages: file.pages,
+    })
+}
+
 /// The files, by the names that a script has for them.
-fn files_of(alloc: Global, header: &Header, names: &Names) -> Result<FileList, AllocError> {
+fn files_of(alloc: Global, header: &Header, names: &Names) -> Result<FileList, AllocError>
+    ensures { IfOk result (λ files. files ≡ map (file_for names.now) header.now.files.items) }
+{
     let mut files = FileList::new(alloc);
     for file in &header.files {
-        let mut name = String::new(alloc);
-        names.add_name(&mut name, file.name.as_str())?;
-        files.push(File {
-            name: Text::new(name),
-            pages: file.pages,
-        })?;
+        files.push(file_of(alloc, names, file)?)?;
     }
     Ok(files)
 }
 
 /// The configuration: a line ends only when it is answered, and the history has the most room that it can have.
-pub fn config_of(alloc: Global, header: &Header, names: &Names) -> Result<Config, AllocError> {
+pub fn config_of(alloc: Global, header: &Header, names: &Names) -> Result<Config, AllocError>
+    ensures { IfOk result (IsConfigOf (machine_of header.now) names.now) }
+{
     Ok(Config {
         frames: header.frames,
         swap: header.swap,
@@ -47,17 +59,33 @@ pub fn config_of(alloc: Global, header: &Header, names: &Names) -> Result<Config
     })
 }
 
+/// Whether a failing call is of this kind.
+fn is_of_call(failing: &Failing, call: DeviceCall) -> bool
+    ensures { result ≡ is_of_call failing.now.call call }
+{
+    match (failing.call, call) {
+        (DeviceCall::Read, DeviceCall::Read) | (DeviceCall::Write, DeviceCall::Write) => true,
+        (DeviceCall::Read, DeviceCall::Write) | (DeviceCall::Write, DeviceCall::Read) => false,
+    }
+}
+
+/// Adds the number of a failing call, if it is of this kind.
+fn add_number(numbers: &mut Vec<u64>, failing: &Failing, call: DeviceCall) -> Result<(), AllocError>
+    ensures { OnOk result (numbers.new.items ≡ numbers.old.items ++ number_of_call call failing.now) }
+{
+    if is_of_call(failing, call) {
+        numbers.push(u64::from(failing.number))?;
+    }
+    Ok(())
+}
+
 /// Which calls of this kind fail.
-pub fn failing_of(
-    alloc: Global,
-    header: &Header,
-    call: DeviceCall,
-) -> Result<Vec<u64>, AllocError> {
+pub fn failing_of(alloc: Global, header: &Header, call: DeviceCall) -> Result<Vec<u64>, AllocError>
+    ensures { IfOk result (λ numbers. numbers.items ≡ failing_calls call header.now.failing.items) }
+{
     let mut numbers = Vec::new(alloc);
     for failing in &header.failing {
-        if failing.call == call {
-            numbers.push(u64::from(failing.number))?;
-        }
+        add_number(&mut numbers, failing, call)?;
     }
     Ok(numbers)
 }
